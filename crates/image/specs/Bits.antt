@@ -1,0 +1,12 @@
+-- The bits of a map: a list of bytes, eight bits to each.
+use Prim.Native.Nat.{ℕ, _/_, _%_, _^_}
+use mathlib.Core.List.{List}
+use Rattle.image.specs.Words.{byteAt}
+
+-- Bit k of a byte, 0 or 1; bit 0 is the lowest.
+unfoldable pub bitOf : ℕ → ℕ → ℕ
+bitOf b k = b / 2 ^ k % 2
+
+-- 01, Index file: "Bit j is bit j mod 8 of byte j/8."
+unfoldable pub bitAt : List ℕ → ℕ → ℕ
+bitAt m j = bitOf (byteAt m (j / 8)) (j % 8)

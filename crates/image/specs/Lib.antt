@@ -1,0 +1,6 @@
+pub mod Words
+pub mod Blocks
+pub mod Sums
+pub mod Bits
+pub mod Stores
+pub mod First

@@ -1,0 +1,36 @@
+-- What a list of bytes holds after a store.
+use Prim.Native.Nat.{ℕ, zero, suc, _+_, _*_, _-_, _/_, _%_, _^_}
+use mathlib.Core.List.{List, [], _∷_, _++_}
+use lib.ListN.{length, take, drop, set, replicate}
+use Rattle.image.specs.Words.{byteAt}
+use Rattle.image.specs.Bits.{bitOf}
+
+-- The word v at a place, low byte first.
+unfoldable pub putWord : List ℕ → ℕ → ℕ → List ℕ
+putWord b at v = set (set b at (v % 256)) (at + 1) (v / 256)
+
+-- The bytes s from a place on, in the stead of as many bytes there.
+unfoldable pub splice : List ℕ → ℕ → List ℕ → List ℕ
+splice b at s = take at b ++ (s ++ drop (at + length s) b)
+
+-- n bytes 0.
+unfoldable pub zeros : ℕ → List ℕ
+zeros n = replicate n 0
+
+-- A byte with its bit k made v.
+unfoldable pub withBit : ℕ → ℕ → ℕ → ℕ
+withBit b k v = b - bitOf b k * 2 ^ k + v * 2 ^ k
+
+-- A map with bit j made v.
+unfoldable pub putBit : List ℕ → ℕ → ℕ → List ℕ
+putBit m j v = set m (j / 8) (withBit (byteAt m (j / 8)) (j % 8) v)
+
+-- A map with each bit of the list js made v.
+unfoldable pub putBits : List ℕ → List ℕ → ℕ → List ℕ
+putBits m [] v = m
+putBits m (j ∷ js) v = putBits (putBit m j v) js v
+
+-- The c numbers from s on: s, s + 1, .., s + c - 1. A run of blocks, or of bits.
+unfoldable pub numbersFrom : ℕ → ℕ → List ℕ
+numbersFrom s zero = []
+numbersFrom s (suc c) = s ∷ numbersFrom (s + 1) c
