@@ -1,36 +1,9 @@
 -- The number, the place and the value of each refusal (01, Answer numbers).
 use Prim.Native.Nat.{ℕ}
 use Rattle.answer.specs.declared.refusal.Refusal.{Refusal}
-use Rattle.answer.specs.declared.refusal.Refusal.the-variants.{
-  Size,
-  Home,
-  Geometry,
-  Index,
-  Storage,
-  Relvol,
-  Number,
-  Header,
-  Sequence,
-  Segment,
-  Locked,
-  Chain,
-  Vbn,
-  Name,
-  Absent,
-  Work,
-  Files,
-  Links,
-  Twice,
-  Badhome,
-  Map,
-  Known,
-  Fixed,
-  Count,
-  Full,
-  Run,
-  Nonumber,
-  Room,
-}
+use Rattle.answer.specs.declared.refusal.Refusal.the-variants.{Size, Home, Geometry, Index, Storage, Relvol, Number, Header, Sequence, Segment}
+use Rattle.answer.specs.declared.refusal.Refusal.the-variants.{Locked, Chain, Vbn, Name, Absent, Work, Files, Links, Twice, Badhome, Map}
+use Rattle.answer.specs.declared.refusal.Refusal.the-variants.{Known, Fixed, Count, Full, Run, Nonumber, Room}
 
 -- 01, Answer numbers: the table's number of each refusal.
 abbrev pub numberOf : Refusal → ℕ

@@ -5,9 +5,9 @@ use lib.ListN.{getD}
 use Rattle.answer.specs.declared.refusal.Refusal.{Refusal}
 use Rattle.answer.specs.Refusal.{numberOf, placeOf, valueOf}
 
--- 01, Answer numbers: "An answer is a number, a place and a value". The value is a list of at most ten words; the words past its
--- end are 0.
-unfoldable pub answerWords : ℕ → ℕ → List ℕ → List ℕ
+-- 01, Answer numbers: "An answer is a number, a place and a value". The value is given by its own words, ten at most; a value word
+-- past their end is 0.
+abbrev pub answerWords : ℕ → ℕ → List ℕ → List ℕ
 answerWords number place value =
     number
     ∷ place
@@ -23,10 +23,10 @@ answerWords number place value =
     ∷ getD value 9 0
     ∷ []
 
--- The words of a refusal.
+-- A refusal: its number, its place and its value.
 abbrev pub refusedWords : Refusal → List ℕ
 refusedWords r = answerWords (numberOf r) (placeOf r) (valueOf r ∷ [])
 
--- The words of DONE with a value: "DONE has place 0", and its number is 0.
+-- DONE with a value. 01, Answer numbers: its number is 0, and "DONE has place 0".
 abbrev pub doneWords : List ℕ → List ℕ
 doneWords value = answerWords 0 0 value

@@ -41,59 +41,65 @@ pub enum Refusal {
     Room,
 }
 
+// A refusal's number, place and value.
+struct Row(u8, u32, u32);
+
+// The row of a refusal: the table of answer numbers.
+fn row_of(r: Refusal) -> Row
+    ensures { λ w. ⌜ (w .0 ≡ numberOf r) × (w .1 ≡ placeOf r) × (w .2 ≡ valueOf r) ⌝ }
+{
+    match r {
+        Refusal::Size => Row(1, 0, 0),
+        Refusal::Home => Row(2, 0, 0),
+        Refusal::Geometry => Row(3, 0, 0),
+        Refusal::Index => Row(4, 0, 0),
+        Refusal::Storage => Row(5, 0, 0),
+        Refusal::Relvol => Row(6, 0, 0),
+        Refusal::Number => Row(7, 0, 0),
+        Refusal::Header(_) => Row(8, 0, 0),
+        Refusal::Sequence => Row(9, 0, 0),
+        Refusal::Segment => Row(10, 0, 0),
+        Refusal::Locked => Row(11, 0, 0),
+        Refusal::Chain => Row(12, 0, 0),
+        Refusal::Vbn => Row(13, 0, 0),
+        Refusal::Name => Row(14, 0, 0),
+        Refusal::Absent => Row(15, 0, 0),
+        Refusal::Work => Row(16, 0, 0),
+        Refusal::Files(n, _) => Row(17, n, 0),
+        Refusal::Links(n) => Row(18, n, 0),
+        Refusal::Twice(l) => Row(19, l, 0),
+        Refusal::Badhome(l) => Row(20, l, 0),
+        Refusal::Map(j) => Row(21, j, 0),
+        Refusal::Known => Row(22, 0, 0),
+        Refusal::Fixed => Row(23, 0, 0),
+        Refusal::Count => Row(24, 0, 0),
+        Refusal::Full => Row(25, 0, 0),
+        Refusal::Run => Row(26, 0, 0),
+        Refusal::Nonumber => Row(27, 0, 0),
+        Refusal::Room => Row(28, 0, 0),
+    }
+}
+
 // The number of a refusal in the table.
 pub fn number_of(r: Refusal) -> u8
     ensures { λ n. ⌜ n ≡ numberOf r ⌝ }
 {
-    match r {
-        Refusal::Size => 1,
-        Refusal::Home => 2,
-        Refusal::Geometry => 3,
-        Refusal::Index => 4,
-        Refusal::Storage => 5,
-        Refusal::Relvol => 6,
-        Refusal::Number => 7,
-        Refusal::Header(_) => 8,
-        Refusal::Sequence => 9,
-        Refusal::Segment => 10,
-        Refusal::Locked => 11,
-        Refusal::Chain => 12,
-        Refusal::Vbn => 13,
-        Refusal::Name => 14,
-        Refusal::Absent => 15,
-        Refusal::Work => 16,
-        Refusal::Files(_, _) => 17,
-        Refusal::Links(_) => 18,
-        Refusal::Twice(_) => 19,
-        Refusal::Badhome(_) => 20,
-        Refusal::Map(_) => 21,
-        Refusal::Known => 22,
-        Refusal::Fixed => 23,
-        Refusal::Count => 24,
-        Refusal::Full => 25,
-        Refusal::Run => 26,
-        Refusal::Nonumber => 27,
-        Refusal::Room => 28,
-    }
+    let w = row_of(r);
+    w.0
 }
 
 // The place of a refusal.
 pub fn place_of(r: Refusal) -> u32
     ensures { λ p. ⌜ p ≡ placeOf r ⌝ }
 {
-    match r {
-        Refusal::Files(n, _) => n,
-        Refusal::Links(n) => n,
-        Refusal::Twice(l) => l,
-        Refusal::Badhome(l) => l,
-        Refusal::Map(j) => j,
-        _ => 0,
-    }
+    let w = row_of(r);
+    w.1
 }
 
 // The value of a refusal.
 pub fn value_of(r: Refusal) -> u32
     ensures { λ v. ⌜ v ≡ valueOf r ⌝ }
 {
-    0
+    let w = row_of(r);
+    w.2
 }

@@ -2,15 +2,15 @@
 use mathlib.Core.Path.{_≡_, ap, sym}
 use borrow.Author.Needs.{needs}
 use Rattle.answer.specs.declared.refusal.Refusal.{Refusal}
-use Rattle.answer.specs.Refusal.{numberOf}
-use Rattle.answer.proofs.refusal.number_of.Statement.{statement}
-use Rattle.answer.proofs.refusal.number_of.Tie as tie
+use Rattle.answer.specs.Refusal.{numberOf, placeOf, valueOf}
+use Rattle.answer.proofs.refusal.row_of.Statement.{statement}
+use Rattle.answer.proofs.refusal.row_of.Tie as tie
 
-by : {r case : Refusal} → r ≡ case → numberOf case ≡ numberOf r
-by e = sym (ap numberOf e)
+by : {r case : Refusal} → r ≡ case → (numberOf case ≡ numberOf r) × (placeOf case ≡ placeOf r) × (valueOf case ≡ valueOf r)
+by e = (sym (ap numberOf e), sym (ap placeOf e), sym (ap valueOf e))
 
-pub number-of-spec : {M : Type 1} → statement M
-number-of-spec =
+pub row-of-spec : {M : Type 1} → statement M
+row-of-spec =
     tie.close
     (tie.spec
     (search needs) (search needs) (search needs) (search needs) (search needs) (search needs) (search needs)
@@ -21,6 +21,6 @@ number-of-spec =
     (λ c. by (c .enum-told5 .given .1)) (λ c. by (c .enum-told6 .given .1)) (λ c. by (c .enum-told7 .given .1)) (λ c. by (c .enum-told8 .given .1))
     (λ c. by (c .enum-told9 .given .1)) (λ c. by (c .enum-told10 .given .1)) (λ c. by (c .enum-told11 .given .1)) (λ c. by (c .enum-told12 .given .1))
     (λ c. by (c .enum-told13 .given .1)) (λ c. by (c .enum-told14 .given .1)) (λ c. by (c .enum-told15 .given .1)) (λ c. by (c .enum-told16 .given .1))
-    (λ c. by (c .enum-told17 .given .1)) (λ c. by (c .enum-told18 .given .1)) (λ c. by (c .enum-told19 .given .1)) (λ c. by (c .enum-told20 .given .1))
-    (λ c. by (c .enum-told21 .given .1)) (λ c. by (c .enum-told22 .given .1)) (λ c. by (c .enum-told23 .given .1)) (λ c. by (c .enum-told24 .given .1))
-    (λ c. by (c .enum-told25 .given .1)) (λ c. by (c .enum-told26 .given .1)) (λ c. by (c .enum-told27 .given .1)) (λ c. by (c .enum-told28 .given .1)))
+    (λ c. by (c .before .r .given .1)) (λ c. by (c .before .r2 .given .1)) (λ c. by (c .before .r3 .given .1)) (λ c. by (c .before .r4 .given .1))
+    (λ c. by (c .before .r5 .given .1)) (λ c. by (c .enum-told17 .given .1)) (λ c. by (c .enum-told18 .given .1)) (λ c. by (c .enum-told19 .given .1))
+    (λ c. by (c .enum-told20 .given .1)) (λ c. by (c .enum-told21 .given .1)) (λ c. by (c .enum-told22 .given .1)) (λ c. by (c .enum-told23 .given .1)))
