@@ -36,8 +36,8 @@ numberOf Run = 26
 numberOf Nonumber = 27
 numberOf Room = 28
 
--- 01, Answer numbers: "Except 17 to 21 a refusal has place 0"; The verdict: "the place is the lowest offender", a file number,
--- an LBN or a bit number.
+-- 01, Answer numbers: "Except 17 to 21 a refusal has place 0". 01, The verdict: "the place is the lowest offender", which is a file
+-- number, an LBN or a bit number.
 abbrev pub placeOf : Refusal → ℕ
 placeOf Size = 0
 placeOf Home = 0
@@ -70,4 +70,4 @@ placeOf Room = 0
 
 -- 01, Answer numbers: "every refusal has value 0 or an empty part".
 abbrev pub valueOf : Refusal → ℕ
-valueOf _ = 0
+valueOf r = 0

@@ -1,5 +1,5 @@
-// What the calls on a volume answer and take: refusals with their numbers, the counts that are kept apart, IDs and names, and the
-// twelve words of an exported call's answer.
+// What calls on a volume take and answer: the counts that are kept apart, file IDs and names, refusals with their number, place and
+// value, and the twelve words of an exported call's answer.
 
 pub mod refusal;
 pub mod types;

@@ -41,10 +41,10 @@ pub enum Refusal {
     Room,
 }
 
-// A refusal's number, place and value.
+// A refusal's number, place and value, in this order.
 struct Row(u8, u32, u32);
 
-// The row of a refusal: the table of answer numbers.
+// The table of answer numbers: the row of each refusal.
 fn row_of(r: Refusal) -> Row
     ensures { λ w. ⌜ (w .0 ≡ numberOf r) × (w .1 ≡ placeOf r) × (w .2 ≡ valueOf r) ⌝ }
 {

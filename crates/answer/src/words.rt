@@ -17,7 +17,7 @@ pub fn put_refused(answer: &mut [u64; 12], r: Refusal)
     *answer = [n as u64, p as u64, v as u64, 0, 0, 0, 0, 0, 0, 0, 0, 0];
 }
 
-// Writes the words of DONE with its ten value words.
+// Writes the words of DONE with its value words; those that the value does not use are given as 0.
 pub fn put_done(answer: &mut [u64; 12], values: [u64; 10])
     ensures { λ _. ⌜ now (answer .exit) ≡ doneWords values ⌝ }
 {
