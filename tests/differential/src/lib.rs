@@ -1,1 +1,20 @@
+//! What the comparisons of library and model share.
+//!
+//! * [`run`]: numbers and counts the cases of a test, and reports a case that differs;
+//! * [`random`]: the generator of pseudo-random cases;
+//! * [`names`]: the comparisons of the calls on names, and the names and texts that they use.
+//!
+//! The environment changes a run:
+//!
+//! * `ODS1_SEED`: the seed of the random cases (decimal, or hexadecimal after `0x`);
+//! * `ODS1_CASES`: how many cases each random test makes, for a long run;
+//! * `ODS1_CASE`: the one case to run, as a report of a difference gives it.
 
+#![forbid(unsafe_code)]
+
+pub mod names;
+pub mod random;
+pub mod run;
+
+pub use random::Random;
+pub use run::Run;

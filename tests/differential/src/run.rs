@@ -1,0 +1,299 @@
+//! The run of one test: it numbers and counts the cases, and reports a case that differs.
+
+use crate::random::Random;
+use model::Number;
+use std::env;
+use std::io::{self, Write};
+
+/// The seed of the random cases where the environment gives none.
+const SEED: u64 = 0x0d51_1986;
+
+/// What the environment asks of a run.
+struct Settings {
+    seed: u64,
+    /// How many cases each random test makes.
+    cases: Option<u64>,
+    /// The one case to run.
+    only: Option<u64>,
+}
+
+impl Settings {
+    fn from_environment() -> Settings {
+        Settings {
+            seed: from_environment("ODS1_SEED").unwrap_or(SEED),
+            cases: from_environment("ODS1_CASES"),
+            only: from_environment("ODS1_CASE"),
+        }
+    }
+}
+
+/// The number that a variable of the environment holds, if it is set.
+fn from_environment(variable: &str) -> Option<u64> {
+    let text = env::var(variable).ok()?;
+    let number = parse_number(&text);
+    assert!(number.is_some(), "{variable}={text} is not a number");
+    number
+}
+
+/// A decimal number, or a hexadecimal one after `0x`.
+fn parse_number(text: &str) -> Option<u64> {
+    match text.strip_prefix("0x") {
+        Some(digits) => u64::from_str_radix(digits, 16).ok(),
+        None => text.parse().ok(),
+    }
+}
+
+/// The run of one test.
+pub struct Run {
+    target: &'static str,
+    test: &'static str,
+    settings: Settings,
+    /// The number of the next case, from 0.
+    next: u64,
+    /// How many cases were compared.
+    compared: u64,
+}
+
+/// A line of a report: what it tells, and what it says.
+pub type Line = (&'static str, String);
+
+impl Run {
+    /// Runs the cases of the test `test` of the file `target`, and fails if fewer than `minimum`
+    /// were compared: a test that compares nothing does not pass.
+    pub fn of(
+        target: &'static str,
+        test: &'static str,
+        minimum: u64,
+        cases: impl FnOnce(&mut Run),
+    ) {
+        let mut run = Run {
+            target,
+            test,
+            settings: Settings::from_environment(),
+            next: 0,
+            compared: 0,
+        };
+        cases(&mut run);
+        run.expect_enough(minimum);
+        run.tell();
+    }
+
+    /// How many cases a random test makes: as many as the environment says, or else `usual`.
+    pub fn cases(&self, usual: u64) -> u64 {
+        self.settings.cases.unwrap_or(usual)
+    }
+
+    /// The generator of the next case.
+    pub fn random(&self) -> Random {
+        Random::of_case(self.settings.seed, self.test, self.next)
+    }
+
+    /// Numbers and counts the next case, and answers its number; nothing if it is not to be run.
+    pub fn next_case(&mut self) -> Option<u64> {
+        let case = self.next;
+        self.next += 1;
+        if self.settings.only.is_some_and(|only| only != case) {
+            return None;
+        }
+        self.compared += 1;
+        Some(case)
+    }
+
+    /// Fails the test with a report of a case.
+    pub fn fail(&self, case: u64, what: &str, lines: &[Line]) -> ! {
+        let mut report = format!("{what}\n");
+        let mut add = |label: &str, text: &str| {
+            report.push_str(&format!("  {label:<15} {text}\n"));
+        };
+        add("test", &format!("{} {}", self.target, self.test));
+        add("seed", &format!("{:#x}", self.settings.seed));
+        add("case", &case.to_string());
+        for (label, text) in lines {
+            add(label, text);
+        }
+        add("rerun in tests/", &self.command(case));
+        panic!("{report}");
+    }
+
+    /// The command that runs just one case.
+    fn command(&self, case: u64) -> String {
+        let cases = match self.settings.cases {
+            Some(cases) => format!("ODS1_CASES={cases} "),
+            None => String::new(),
+        };
+        format!(
+            "ODS1_SEED={:#x} {cases}ODS1_CASE={case} cargo test --release --offline --locked \
+             -p differential --test {} -- --exact {}",
+            self.settings.seed, self.target, self.test
+        )
+    }
+
+    /// Sees that enough cases were compared: `minimum`, or the one that was asked for.
+    fn expect_enough(&self, minimum: u64) {
+        let least = match self.settings.only {
+            Some(_) => 1,
+            None => minimum,
+        };
+        assert!(
+            self.compared >= least,
+            "{} {} compared {} cases, and at least {least} are asked for",
+            self.target,
+            self.test,
+            self.compared
+        );
+    }
+
+    /// Tells how many cases were compared, past the test harness, which keeps back what a passing
+    /// test prints.
+    fn tell(&self) {
+        let line = format!(
+            "{} {}: {} cases compared\n",
+            self.target, self.test, self.compared
+        );
+        let told = io::stderr().write_all(line.as_bytes());
+        told.expect("standard error takes a line");
+    }
+}
+
+/// An answer in readable form.
+pub fn show_answer(words: &[u64; 12]) -> String {
+    let name = Number::from_number(words[0]).map_or("(no such number)", Number::name);
+    let value: Vec<String> = words[2..].iter().map(|&word| show_word(word)).collect();
+    format!(
+        "{} {name} place {} value {}",
+        show_word(words[0]),
+        show_word(words[1]),
+        value.join(" ")
+    )
+}
+
+/// A word of an answer, or that it was not written.
+fn show_word(word: u64) -> String {
+    if word == library::UNWRITTEN {
+        "(unwritten)".to_string()
+    } else {
+        word.to_string()
+    }
+}
+
+/// The first word in which two answers differ, by its name.
+pub fn first_difference(left: &[u64; 12], right: &[u64; 12]) -> String {
+    match (0..left.len()).find(|&place| left[place] != right[place]) {
+        None => "none: the answers are equal".to_string(),
+        Some(0) => "the number".to_string(),
+        Some(1) => "the place".to_string(),
+        Some(place) => format!("value word {}", place - 1),
+    }
+}
+
+/// How many bytes a report shows of a long run of them.
+const SHOWN: usize = 160;
+
+/// Bytes in readable form.
+pub fn show_text(bytes: &[u8]) -> String {
+    let shown = &bytes[..bytes.len().min(SHOWN)];
+    format!("\"{}\"{}", shown.escape_ascii(), show_rest(bytes.len()))
+}
+
+/// Bytes in hexadecimal.
+pub fn show_hex(bytes: &[u8]) -> String {
+    let shown = &bytes[..bytes.len().min(SHOWN)];
+    let hex: Vec<String> = shown.iter().map(|byte| format!("{byte:02x}")).collect();
+    format!("{}{}", hex.join(" "), show_rest(bytes.len()))
+}
+
+/// What a report says of the bytes that it does not show.
+fn show_rest(length: usize) -> String {
+    if length > SHOWN {
+        format!(" .. ({length} bytes, the first {SHOWN} shown)")
+    } else {
+        format!(" ({length} bytes)")
+    }
+}
+
+#[cfg(test)]
+mod tests {
+    use super::*;
+
+    fn run(only: Option<u64>) -> Run {
+        Run {
+            target: "target",
+            test: "test",
+            settings: Settings {
+                seed: 5,
+                cases: None,
+                only,
+            },
+            next: 0,
+            compared: 0,
+        }
+    }
+
+    #[test]
+    fn numbers_of_the_environment() {
+        assert_eq!(parse_number("12"), Some(12));
+        assert_eq!(parse_number("0x1f"), Some(31));
+        assert_eq!(parse_number(""), None);
+        assert_eq!(parse_number("1f"), None);
+    }
+
+    #[test]
+    fn every_case_is_counted() {
+        let mut all = run(None);
+        let numbers: Vec<Option<u64>> = (0..3).map(|_| all.next_case()).collect();
+        assert_eq!(numbers, [Some(0), Some(1), Some(2)]);
+        all.expect_enough(3);
+    }
+
+    #[test]
+    #[should_panic(expected = "compared 1 cases, and at least 2 are asked for")]
+    fn too_few_cases_fail() {
+        let mut all = run(None);
+        all.next_case();
+        all.expect_enough(2);
+    }
+
+    #[test]
+    fn one_case_alone() {
+        let mut one = run(Some(1));
+        let numbers: Vec<Option<u64>> = (0..3).map(|_| one.next_case()).collect();
+        assert_eq!(numbers, [None, Some(1), None]);
+        one.expect_enough(1000);
+    }
+
+    #[test]
+    #[should_panic(expected = "compared 0 cases, and at least 1 are asked for")]
+    fn one_case_that_is_not_there_fails() {
+        let mut one = run(Some(9));
+        one.next_case();
+        one.expect_enough(1000);
+    }
+
+    #[test]
+    #[should_panic(
+        expected = "ODS1_SEED=0x5 ODS1_CASE=7 cargo test --release --offline --locked \
+                               -p differential --test target -- --exact test\n"
+    )]
+    fn a_report_has_the_command_to_run_the_case_again() {
+        run(None).fail(7, "differs", &[("input", "none".to_string())]);
+    }
+
+    #[test]
+    fn answers_in_readable_form() {
+        let mut words = [0; 12];
+        words[0] = 14;
+        assert_eq!(
+            show_answer(&words),
+            "14 NAME place 0 value 0 0 0 0 0 0 0 0 0 0"
+        );
+        words[0] = 99;
+        words[1] = library::UNWRITTEN;
+        assert_eq!(
+            show_answer(&words),
+            "99 (no such number) place (unwritten) value 0 0 0 0 0 0 0 0 0 0"
+        );
+        let mut other = words;
+        other[4] = 1;
+        assert_eq!(first_difference(&words, &other), "value word 3");
+    }
+}
