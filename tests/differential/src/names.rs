@@ -17,9 +17,9 @@ fn pattern(fill: u8, place: usize) -> u8 {
 /// Compares `name_to_text` of library and model on a buffer of `length` bytes that holds a pattern:
 /// all words of the answer, the whole buffer, and the bytes beside it.
 pub fn compare_words(run: &mut Run, words: [u16; 5], length: usize, fill: u8) {
-    let Some(case) = run.next_case() else {
+    if !run.next_case() {
         return;
-    };
+    }
     let before: Vec<u8> = (0..BESIDE + length + BESIDE)
         .map(|place| pattern(fill, place))
         .collect();
@@ -36,7 +36,6 @@ pub fn compare_words(run: &mut Run, words: [u16; 5], length: usize, fill: u8) {
     let beside =
         by_library[..BESIDE] != before[..BESIDE] || by_library[lent.end..] != before[lent.end..];
     run.fail(
-        case,
         "name_to_text: the library differs from the model",
         &[
             ("words", show_words(words)),
@@ -57,9 +56,9 @@ pub fn compare_words(run: &mut Run, words: [u16; 5], length: usize, fill: u8) {
 /// Compares `text_to_name` of library and model: all words of the answer. The text stands between
 /// bytes that would change its meaning if they were read.
 pub fn compare_text(run: &mut Run, text: &[u8]) {
-    let Some(case) = run.next_case() else {
+    if !run.next_case() {
         return;
-    };
+    }
     let mut around = vec![b'A'; BESIDE];
     around.extend_from_slice(text);
     around.extend_from_slice(&[b'7'; BESIDE]);
@@ -70,7 +69,6 @@ pub fn compare_text(run: &mut Run, text: &[u8]) {
         return;
     }
     run.fail(
-        case,
         "text_to_name: the library differs from the model",
         &[
             ("text", show_text(text)),

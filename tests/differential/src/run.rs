@@ -4,6 +4,7 @@ use crate::random::Random;
 use model::Number;
 use std::env;
 use std::io::{self, Write};
+use std::thread;
 
 /// The seed of the random cases where the environment gives none.
 const SEED: u64 = 0x0d51_1986;
@@ -50,6 +51,8 @@ pub struct Run {
     settings: Settings,
     /// The number of the next case, from 0.
     next: u64,
+    /// The case under way, if there is one.
+    under_way: Option<u64>,
     /// How many cases were compared.
     compared: u64,
 }
@@ -71,9 +74,11 @@ impl Run {
             test,
             settings: Settings::from_environment(),
             next: 0,
+            under_way: None,
             compared: 0,
         };
         cases(&mut run);
+        run.under_way = None;
         run.expect_enough(minimum);
         run.tell();
     }
@@ -88,31 +93,31 @@ impl Run {
         Random::of_case(self.settings.seed, self.test, self.next)
     }
 
-    /// Numbers and counts the next case, and answers its number; nothing if it is not to be run.
-    pub fn next_case(&mut self) -> Option<u64> {
+    /// Numbers the next case, and answers whether it is to be run; if so, it counts.
+    pub fn next_case(&mut self) -> bool {
         let case = self.next;
         self.next += 1;
         if self.settings.only.is_some_and(|only| only != case) {
-            return None;
+            return false;
         }
+        self.under_way = Some(case);
         self.compared += 1;
-        Some(case)
+        true
     }
 
-    /// Fails the test with a report of a case.
-    pub fn fail(&self, case: u64, what: &str, lines: &[Line]) -> ! {
-        let mut report = format!("{what}\n");
-        let mut add = |label: &str, text: &str| {
-            report.push_str(&format!("  {label:<15} {text}\n"));
-        };
-        add("test", &format!("{} {}", self.target, self.test));
-        add("seed", &format!("{:#x}", self.settings.seed));
-        add("case", &case.to_string());
-        for (label, text) in lines {
-            add(label, text);
-        }
-        add("rerun in tests/", &self.command(case));
-        panic!("{report}");
+    /// Fails the test with a report of the case under way.
+    pub fn fail(&self, what: &str, lines: &[Line]) -> ! {
+        panic!("{what}\n{}", show_lines(lines));
+    }
+
+    /// What a report says of a case, whatever it was that failed.
+    fn show_case(&self, case: u64) -> String {
+        show_lines(&[
+            ("test", format!("{} {}", self.target, self.test)),
+            ("seed", format!("{:#x}", self.settings.seed)),
+            ("case", case.to_string()),
+            ("rerun in tests/", self.command(case)),
+        ])
     }
 
     /// The command that runs just one case.
@@ -153,6 +158,23 @@ impl Run {
         let told = io::stderr().write_all(line.as_bytes());
         told.expect("standard error takes a line");
     }
+}
+
+/// A test that fails in a case, by a report or by any other panic, tells how to run the case again.
+impl Drop for Run {
+    fn drop(&mut self) {
+        if let Some(case) = self.under_way.filter(|_| thread::panicking()) {
+            println!("{}", self.show_case(case));
+        }
+    }
+}
+
+/// The lines of a report.
+fn show_lines(lines: &[Line]) -> String {
+    let lines = lines.iter();
+    lines
+        .map(|(label, text)| format!("  {label:<15} {text}\n"))
+        .collect()
 }
 
 /// An answer in readable form.
@@ -225,6 +247,7 @@ mod tests {
                 only,
             },
             next: 0,
+            under_way: None,
             compared: 0,
         }
     }
@@ -240,8 +263,8 @@ mod tests {
     #[test]
     fn every_case_is_counted() {
         let mut all = run(None);
-        let numbers: Vec<Option<u64>> = (0..3).map(|_| all.next_case()).collect();
-        assert_eq!(numbers, [Some(0), Some(1), Some(2)]);
+        assert!((0..3).all(|_| all.next_case()));
+        assert_eq!(all.under_way, Some(2));
         all.expect_enough(3);
     }
 
@@ -256,8 +279,9 @@ mod tests {
     #[test]
     fn one_case_alone() {
         let mut one = run(Some(1));
-        let numbers: Vec<Option<u64>> = (0..3).map(|_| one.next_case()).collect();
-        assert_eq!(numbers, [None, Some(1), None]);
+        let run: Vec<bool> = (0..3).map(|_| one.next_case()).collect();
+        assert_eq!(run, [false, true, false]);
+        assert_eq!(one.under_way, Some(1));
         one.expect_enough(1000);
     }
 
@@ -270,12 +294,22 @@ mod tests {
     }
 
     #[test]
-    #[should_panic(
-        expected = "ODS1_SEED=0x5 ODS1_CASE=7 cargo test --release --offline --locked \
-                               -p differential --test target -- --exact test\n"
-    )]
     fn a_report_has_the_command_to_run_the_case_again() {
-        run(None).fail(7, "differs", &[("input", "none".to_string())]);
+        let report = run(None).show_case(7);
+        let command = "ODS1_SEED=0x5 ODS1_CASE=7 cargo test --release --offline --locked \
+                       -p differential --test target -- --exact test\n";
+        assert!(report.ends_with(command), "{report}");
+        let mut long = run(None);
+        long.settings.cases = Some(99);
+        assert!(long
+            .command(7)
+            .starts_with("ODS1_SEED=0x5 ODS1_CASES=99 ODS1_CASE=7 cargo "));
+    }
+
+    #[test]
+    #[should_panic(expected = "differs\n  input           none\n")]
+    fn a_report_has_its_lines() {
+        run(None).fail("differs", &[("input", "none".to_string())]);
     }
 
     #[test]

@@ -20,16 +20,16 @@ fn five_words(answer: &[u64; 12]) -> Option<[u16; 5]> {
 
 /// A text to words and back: it is taken, and the same text comes back.
 fn text_and_back(run: &mut Run, text: &[u8]) {
-    let Some(case) = run.next_case() else {
+    if !run.next_case() {
         return;
-    };
+    }
     let there = library::text_to_name(text);
     let Some(words) = five_words(&there).filter(|_| there[0] == DONE) else {
         let lines = [
             ("text", show_text(text)),
             ("text_to_name", show_answer(&there)),
         ];
-        run.fail(case, "the text of a proper name was not taken", &lines);
+        run.fail("the text of a proper name was not taken", &lines);
     };
     let mut buffer = [0xff; 19];
     let back = library::name_to_text(words, &mut buffer);
@@ -40,15 +40,15 @@ fn text_and_back(run: &mut Run, text: &[u8]) {
             ("name_to_text", show_answer(&back)),
             ("buffer", show_text(&buffer)),
         ];
-        run.fail(case, "the text that came back is another one", &lines);
+        run.fail("the text that came back is another one", &lines);
     }
 }
 
 /// Words to text and back: if they are taken, the same words come back.
 fn words_and_back(run: &mut Run, words: [u16; 5]) {
-    let Some(case) = run.next_case() else {
+    if !run.next_case() {
         return;
-    };
+    }
     let mut buffer = [0xff; 19];
     let there = library::name_to_text(words, &mut buffer);
     if there[0] != DONE {
@@ -64,7 +64,7 @@ fn words_and_back(run: &mut Run, words: [u16; 5]) {
             ("buffer", show_text(&buffer)),
             ("text_to_name", show_answer(&back)),
         ];
-        run.fail(case, "the words that came back are others", &lines);
+        run.fail("the words that came back are others", &lines);
     }
 }
 

@@ -39,8 +39,8 @@ fn answer_of(call: impl FnOnce(*mut Words)) -> Words {
     // The pointer is made from the whole array, so that a write beside the answer is seen.
     call(places.as_mut_ptr().wrapping_add(1));
     let [before, answer, after] = places;
-    assert_eq!(before, BESIDE, "the words before the answer were written");
-    assert_eq!(after, BESIDE, "the words after the answer were written");
+    assert!(before == BESIDE, "words before the answer were written");
+    assert!(after == BESIDE, "words after the answer were written");
     answer
 }
 
