@@ -18,15 +18,15 @@ impl Random {
         let mut random = Random::new(seed);
         for byte in test.bytes() {
             random.state ^= u64::from(byte);
-            random.state = random.next();
+            random.state = random.number();
         }
         random.state ^= case;
-        random.state = random.next();
+        random.state = random.number();
         random
     }
 
     /// The next number of 64 bits.
-    pub fn next(&mut self) -> u64 {
+    pub fn number(&mut self) -> u64 {
         self.state = self.state.wrapping_add(0x9e37_79b9_7f4a_7c15);
         let mut mixed = self.state;
         mixed = (mixed ^ (mixed >> 30)).wrapping_mul(0xbf58_476d_1ce4_e5b9);
@@ -37,7 +37,7 @@ impl Random {
     /// A number below `end`, which is not 0. The remainder favours small numbers by less than one
     /// part in 2^32 for every `end` that the tests use.
     pub fn below(&mut self, end: u64) -> u64 {
-        self.next() % end
+        self.number() % end
     }
 
     /// A number from `first` to `last`, both included.
@@ -52,12 +52,12 @@ impl Random {
 
     /// Any byte.
     pub fn byte(&mut self) -> u8 {
-        self.next().to_le_bytes()[0]
+        self.number().to_le_bytes()[0]
     }
 
     /// Any word of 16 bits.
     pub fn word(&mut self) -> u16 {
-        let bytes = self.next().to_le_bytes();
+        let bytes = self.number().to_le_bytes();
         u16::from_le_bytes([bytes[0], bytes[1]])
     }
 
@@ -82,17 +82,17 @@ mod tests {
             16_408_922_859_458_223_821,
         ];
         for number in expected {
-            assert_eq!(random.next(), number);
+            assert_eq!(random.number(), number);
         }
     }
 
     #[test]
     fn seed_test_and_case_each_change_the_numbers() {
-        let first = Random::of_case(1, "one", 1).next();
-        assert_eq!(Random::of_case(1, "one", 1).next(), first);
-        assert_ne!(Random::of_case(2, "one", 1).next(), first);
-        assert_ne!(Random::of_case(1, "two", 1).next(), first);
-        assert_ne!(Random::of_case(1, "one", 2).next(), first);
+        let first = Random::of_case(1, "one", 1).number();
+        assert_eq!(Random::of_case(1, "one", 1).number(), first);
+        assert_ne!(Random::of_case(2, "one", 1).number(), first);
+        assert_ne!(Random::of_case(1, "two", 1).number(), first);
+        assert_ne!(Random::of_case(1, "one", 2).number(), first);
     }
 
     #[test]

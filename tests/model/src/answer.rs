@@ -123,7 +123,7 @@ impl Number {
         (17..=21).contains(&self.number())
     }
 
-    /// The row of the table that speaks of this number.
+    /// The row of this number. Paper 01, "Answer numbers": the table.
     fn row(self) -> &'static (Number, u64, &'static str) {
         TABLE
             .iter()

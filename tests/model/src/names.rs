@@ -45,7 +45,7 @@ impl Name {
 
 /// Paper 01, "Names and directories": "capitals or digits".
 pub fn is_capital_or_digit(character: char) -> bool {
-    ('A'..='Z').contains(&character) || ('0'..='9').contains(&character)
+    character.is_ascii_uppercase() || character.is_ascii_digit()
 }
 
 /// The characters before the blanks, where the words have capitals or digits and then blanks only.
@@ -145,9 +145,9 @@ pub fn name_of(text: &[u8]) -> Option<Name> {
     })
 }
 
-/// The call that makes a name of a text. Paper 01, "Answer numbers": "14 NAME: not proper, text or
-/// words" and "DONE has .. as value .. name words". The call has no text buffer, so 28 is not
-/// tested.
+/// The call that makes a name of a text. Paper 01, "Answer numbers": "14 NAME | not proper, text or
+/// words" and "DONE has place 0 and as value .. name words". It has no text buffer, so that of
+/// "Text calls: 28, then 14" only 14 is left.
 pub fn text_to_name(text: &[u8]) -> Answer {
     match name_of(text) {
         None => Answer::refused(Number::Name),
@@ -156,9 +156,9 @@ pub fn text_to_name(text: &[u8]) -> Answer {
 }
 
 /// The call that makes a text of a name. Paper 01, "Answer numbers": "Text calls: 28, then 14.",
-/// "28 ROOM: text buffer under 19 bytes", "14 NAME: not proper, text or words", "DONE has .. as
-/// value .. text length", "Output buffers are unchanged" where it is refused, and "Bytes after what
-/// is written stay."
+/// "28 ROOM | text buffer under 19 bytes", "14 NAME | not proper, text or words", "DONE has place 0
+/// and as value .. text length", "every refusal has value 0 or an empty part. Output buffers are
+/// unchanged." and "Bytes after what is written stay."
 pub fn name_to_text(name: &Name, buffer: &mut [u8]) -> Answer {
     if buffer.len() < ROOM {
         return Answer::refused(Number::Room);

@@ -53,7 +53,7 @@ pub fn word(codes: [u16; 3]) -> Option<u16> {
 }
 
 /// The three characters of a word, if each of its codes has one. Paper 01, "Names and directories":
-/// "63,999 is `999`", "64,000 refused" and "29 nothing".
+/// "29 nothing", and "Volume V": "63,999 is `999` (P), 64,000 refused (P)".
 pub fn characters(word: u16) -> Option<[char; 3]> {
     let [a, b, c] = codes(word)?;
     Some([character(a)?, character(b)?, character(c)?])
