@@ -16,6 +16,7 @@ failed=0
 
 mkdir -p "$repository"/{.ci,scripts,tests} "$commands"
 cp .ci/run "$repository/.ci/run"
+cp Makefile "$repository/Makefile"
 cp scripts/test.sh "$repository/scripts/test.sh"
 
 # pretend FILE: writes a command, read from standard input.
@@ -73,15 +74,15 @@ exit 99
 END
 
 # expect LAST STATUS [NAME=VALUE..]: runs the scratch repository's gate under these variables, and
-# sees that its last line and its exit status are these.
+# sees that the last line of its standard output is this, and its exit status 0 or not.
 expect() {
     local last=$1 status=$2 got_last got_status
     shift 2
     rm -rf "$repository/target"
-    env PATH="$commands:$PATH" "$@" "$repository/.ci/run" >"$scratch/output" 2>&1
+    env PATH="$commands:$PATH" "$@" "$repository/.ci/run" >"$scratch/output" 2>"$scratch/errors"
     got_status=$?
     got_last=$(tail -n 1 "$scratch/output")
-    if [[ $got_last == "$last" && $got_status == "$status" ]]; then
+    if [[ $got_last == "$last" && $((got_status != 0)) == "$status" ]]; then
         ((passed += 1))
         return
     fi
@@ -89,7 +90,7 @@ expect() {
     printf 'with %s\n' "${*:-nothing changed}"
     printf '  expected "%s", exit status %s\n' "$last" "$status"
     printf '  got      "%s", exit status %s\n' "$got_last" "$got_status"
-    sed 's/^/  | /' "$scratch/output"
+    sed 's/^/  | /' "$scratch/output" "$scratch/errors"
 }
 
 # Where all is well: 2 of the gate, 1 rt fmt, 10 rt ci, 1 library, 1 cargo fmt, 300 cargo test.
