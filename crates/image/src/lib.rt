@@ -1,1 +1,2 @@
-pub fn nothing() {}
+// The image as bytes: words, blocks, sums, bits and stores.
+pub mod words;
