@@ -1,2 +1,3 @@
 pub mod First
 pub mod WordLaws
+pub mod BlockLaws

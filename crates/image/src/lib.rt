@@ -1,2 +1,3 @@
 // The image as bytes: words, blocks, sums, bits and stores.
+pub mod blocks;
 pub mod words;
