@@ -1,3 +1,4 @@
 pub mod First
 pub mod WordLaws
 pub mod BlockLaws
+pub mod SumLaws

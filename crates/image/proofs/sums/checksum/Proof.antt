@@ -1,0 +1,30 @@
+-- At each turn the running sum is the checksum of the words read so far.
+use mathlib.Core.Path.{_≡_, sym}
+use Prim.Native.Nat.{_≤_, _-_}
+use native.Mathlib.Omega.{arith}
+use borrow.Author.Needs.{needs}
+use Rattle.image.specs.Sums.{checksum}
+use Rattle.image.proofs.SumLaws.{checksum-none, checksum-more}
+use Rattle.image.proofs.sums.checksum.Statement.{statement}
+use Rattle.image.proofs.sums.checksum.Tie as tie
+
+abbrev Inv-loop : tie.InvT-loop
+Inv-loop b n sum₀ i₀ sum i = (i ≤ n) × (sum ≡ checksum b i)
+
+abbrev μ-loop : tie.MeasureT-loop
+μ-loop b n sum₀ i₀ sum i = n - i
+
+loop-again : tie.Need-loop-again Inv-loop μ-loop
+loop-again c = (search needs, cc (checksum-more _ _))
+
+returns : tie.Need-returns Inv-loop μ-loop
+returns c =
+    let l = c .before in
+    let e : l .loop .i ≡ l .before .before .args .n = omega arith in
+    cc
+
+pub checksum-spec : {M : Type 1} → statement M
+checksum-spec =
+    tie.close
+    (tie.spec Inv-loop μ-loop (λ c. (search needs, sym (checksum-none _)))
+    (search needs) (search needs) (search needs) (search needs) (search needs) loop-again returns)
