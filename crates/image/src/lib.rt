@@ -1,4 +1,5 @@
 // The image as bytes: words, blocks, sums, bits and stores.
+pub mod bits;
 pub mod blocks;
 pub mod sums;
 pub mod words;

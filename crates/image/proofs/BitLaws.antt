@@ -1,0 +1,162 @@
+-- Laws of the bits of a map, and of stores of bits.
+use mathlib.Core.Path.{_≡_, refl, sym, ap, _∙_}
+use mathlib.Core.Bool.{Bool, true, _&&_, cond}
+use mathlib.Core.List.{List, [], _∷_, _++_}
+use Prim.Native.Nat.{ℕ, zero, suc, _+_, _-_, _*_, _/_, _%_, _^_, _≤_, _<_}
+use native.Mathlib.Decide.{ℕ-discrete}
+use native.Mathlib.Omega.{arith}
+use borrow.Author.Tests.{leb-true, ltb-true, eqb-true, eq-eqb, ne-eqb}
+use lib.Dec.{leb, ltb, eqb}
+use lib.ListN.{length, getD}
+use lib.Seq.{getD-set-same}
+use Rattle.image.specs.Words.{byteAt}
+use Rattle.image.specs.Bits.{bitOf, bitAt}
+use Rattle.image.specs.Stores.{withBit, putBit, putBits, numbersFrom}
+use Rattle.image.proofs.WordLaws.{Bytes}
+use Rattle.image.proofs.Below.{below, below-at, and-left, and-right}
+use Rattle.image.proofs.Numbers.{numbersFrom-none, numbersFrom-length, numbersFrom-at, numbersFrom-last}
+use Rattle.image.proofs.StoreLaws.{Outside, Agree, agree-refl, agree-trans, agree-weaken, bitAt-agree, putBit-agree, set-bytes}
+
+-- A byte b with its bit k made v, and bit i of it: computed for every byte, both values and all bits.
+pub record Byte (b k v i : ℕ) : Type 0 where
+  pub old : bitOf b k * 2 ^ k ≤ b
+  pub new : v * 2 ^ k < 256
+  pub fits : withBit b k v < 256
+  pub bit : bitOf (withBit b k v) i ≡ cond (eqb i k) v (bitOf b i)
+
+test : ℕ → ℕ → ℕ → ℕ → Bool
+unfolding bitOf withBit
+test b k v i =
+    leb (bitOf b k * 2 ^ k) b && (ltb (v * 2 ^ k) 256 && (ltb (withBit b k v) 256 && eqb (bitOf (withBit b k v) i) (cond (eqb i k) v (bitOf b i))))
+
+tests : below 256 (λ b. below 8 (λ k. below 2 (λ v. below 8 (λ i. test b k v i)))) ≡ true
+unfolding test
+tests = refl
+
+pub byte : (b k v i : ℕ) → b < 256 → k < 8 → v < 2 → i < 8 → Byte b k v i
+unfolding test
+byte b k v i hb hk hv hi =
+    let at-b = below-at 256 (λ b. below 8 (λ k. below 2 (λ v. below 8 (λ i. test b k v i)))) tests b hb in
+    let at-k = below-at 8 (λ k. below 2 (λ v. below 8 (λ i. test b k v i))) at-b k hk in
+    let at-v = below-at 2 (λ v. below 8 (λ i. test b k v i)) at-k v hv in
+    let all = below-at 8 (λ i. test b k v i) at-v i hi in
+    let rest = and-right (leb (bitOf b k * 2 ^ k) b) _ all in
+    let last = and-right (ltb (v * 2 ^ k) 256) _ rest in
+    record {
+      old = leb-true (bitOf b k * 2 ^ k) b (and-left (leb (bitOf b k * 2 ^ k) b) _ all);
+      new = ltb-true (v * 2 ^ k) 256 (and-left (ltb (v * 2 ^ k) 256) _ rest);
+      fits = ltb-true (withBit b k v) 256 (and-left (ltb (withBit b k v) 256) _ last);
+      bit = eqb-true (bitOf (withBit b k v) i) (cond (eqb i k) v (bitOf b i)) (and-right (ltb (withBit b k v) 256) _ last);
+    }
+
+-- One bit of a map.
+module _ (m : List ℕ) (j v : ℕ) (inside : j / 8 < length m) (bytes : Bytes m) (isBit : v < 2) where
+  -- A bit of the byte that is stored.
+  stored : (i : ℕ) → i / 8 ≡ j / 8 → bitAt (putBit m j v) i ≡ cond (eqb (i % 8) (j % 8)) v (bitAt m i)
+  unfolding bitAt putBit
+  stored i e =
+      let x = withBit (byteAt m (j / 8)) (j % 8) v in
+      rw (e, getD-set-same m (j / 8) x 0 inside) (byte (byteAt m (j / 8)) (j % 8) v (i % 8) (bytes (j / 8)) (omega arith) isBit (omega arith) .bit)
+
+  pub putBit-same : bitAt (putBit m j v) j ≡ v
+  putBit-same = stored j refl ∙ ap (λ (t : Bool). cond t v (bitAt m j)) (eq-eqb (j % 8) (j % 8) refl)
+
+  pub putBit-other : (i : ℕ) → (i ≡ j → ⊥) → bitAt (putBit m j v) i ≡ bitAt m i
+  putBit-other i ne = go (ℕ-discrete (i / 8) (j / 8))
+    where
+      go : Dec (i / 8 ≡ j / 8) → bitAt (putBit m j v) i ≡ bitAt m i
+      go (yes e) = stored i e ∙ ap (λ (t : Bool). cond t v (bitAt m i)) (ne-eqb (i % 8) (j % 8) (λ k. ne (omega arith)))
+      go (no n) = bitAt-agree (putBit-agree m j v) i (λ p q. n (omega arith))
+
+  pub putBit-bytes : Bytes (putBit m j v)
+  unfolding putBit
+  putBit-bytes = set-bytes m (j / 8) (withBit (byteAt m (j / 8)) (j % 8) v) (byte (byteAt m (j / 8)) (j % 8) v 0 (bytes (j / 8)) (omega arith) isBit (omega arith) .fits) bytes
+
+-- The bits of a list.
+
+pub putBits-none : (m : List ℕ) (v : ℕ) → putBits m [] v ≡ m
+unfolding putBits
+putBits-none m v = refl
+
+pub putBits-one : (m : List ℕ) (j v : ℕ) → putBits m (j ∷ []) v ≡ putBit m j v
+unfolding putBits
+putBits-one m j v = refl
+
+pub putBits-append : (js ks m : List ℕ) (v : ℕ) → putBits m (js ++ ks) v ≡ putBits (putBits m js v) ks v
+unfolding putBits
+putBits-append [] ks m v = refl
+putBits-append (j ∷ js) ks m v = putBits-append js ks (putBit m j v) v
+
+-- The bytes that hold none of the bits stay, and so does the length.
+pub putBits-agree : (js m : List ℕ) (v : ℕ) → Agree (λ i. (p : ℕ) → p < length js → getD js p 0 / 8 ≡ i → ⊥) m (putBits m js v)
+unfolding putBits
+putBits-agree [] m v = agree-refl _ m
+putBits-agree (j ∷ js) m v =
+    agree-trans
+    (agree-weaken (λ i out a b. out 0 (omega arith) (omega arith)) (putBit-agree m j v))
+    (agree-weaken (λ i out p l e. out (suc p) (omega arith) e) (putBits-agree js (putBit m j v) v))
+
+-- What is known of a map m in which the bits js were made v.
+pub record Put (m js : List ℕ) (v : ℕ) : Type 0 where
+  pub bytes : Bytes (putBits m js v)
+  pub stays : (j : ℕ) → bitAt m j ≡ v → bitAt (putBits m js v) j ≡ v
+  pub inside : (p : ℕ) → p < length js → bitAt (putBits m js v) (getD js p 0) ≡ v
+  pub outside : (j : ℕ) → ((p : ℕ) → p < length js → getD js p 0 ≡ j → ⊥) → bitAt (putBits m js v) j ≡ bitAt m j
+
+pub putBits-put : (js m : List ℕ) (v : ℕ) → v < 2 → Bytes m → ((p : ℕ) → p < length js → getD js p 0 / 8 < length m) → Put m js v
+unfolding putBits
+putBits-put [] m v isBit bytes fits = record { bytes = bytes; stays = λ j e. e; inside = λ p l. absurd (omega arith); outside = λ j out. refl }
+putBits-put (k ∷ js) m v isBit bytes fits =
+    go (putBits-put js (putBit m k v) v isBit (putBit-bytes m k v fit bytes isBit) (λ p l. omega (arith, fits (suc p) (omega arith), putBit-agree m k v .len)))
+  where
+    fit : k / 8 < length m
+    fit = fits 0 (omega arith)
+
+    go : Put (putBit m k v) js v → Put m (k ∷ js) v
+    go r = record { bytes = r .bytes; stays = stays; inside = inside; outside = outside }
+      where
+        stays : (j : ℕ) → bitAt m j ≡ v → bitAt (putBits (putBit m k v) js v) j ≡ v
+        stays j e = r .stays j (one (ℕ-discrete j k))
+          where
+            one : Dec (j ≡ k) → bitAt (putBit m k v) j ≡ v
+            one (yes q) = rw q (putBit-same m k v fit bytes isBit)
+            one (no q) = putBit-other m k v fit bytes isBit j q ∙ e
+
+        inside : (p : ℕ) → p < length (k ∷ js) → bitAt (putBits (putBit m k v) js v) (getD (k ∷ js) p 0) ≡ v
+        inside zero l = r .stays k (putBit-same m k v fit bytes isBit)
+        inside (suc p) l = r .inside p (omega arith)
+
+        outside : (j : ℕ) → ((p : ℕ) → p < length (k ∷ js) → getD (k ∷ js) p 0 ≡ j → ⊥) → bitAt (putBits (putBit m k v) js v) j ≡ bitAt m j
+        outside j out =
+            r .outside j (λ p l e. out (suc p) (omega arith) e) ∙ putBit-other m k v fit bytes isBit j (λ e. out 0 (omega arith) (sym e))
+
+-- The bits of a run: none, and one more.
+pub run-none : (m : List ℕ) (s v : ℕ) → putBits m (numbersFrom s 0) v ≡ m
+run-none m s v = rw numbersFrom-none (putBits-none m v)
+
+pub run-more : (m : List ℕ) (s i v : ℕ) → putBits m (numbersFrom s (i + 1)) v ≡ putBit (putBits m (numbersFrom s i) v) (s + i) v
+run-more m s i v = rw numbersFrom-last (putBits-append (numbersFrom s i) ((s + i) ∷ []) m v ∙ putBits-one (putBits m (numbersFrom s i) v) (s + i) v)
+
+-- The c bits from bit s on.
+module _ (m : List ℕ) (s c v : ℕ) (isBit : v < 2) (bytes : Bytes m) (fits : (s + c + 7) / 8 ≤ length m) where
+  run : Put m (numbersFrom s c) v
+  run =
+      putBits-put (numbersFrom s c) m v isBit bytes
+      (λ p l.
+      let small : p < c = omega (arith, numbersFrom-length s c) in
+      omega (arith, numbersFrom-at s c p small))
+
+  pub run-bytes : Bytes (putBits m (numbersFrom s c) v)
+  run-bytes = run .bytes
+
+  pub run-inside : (j : ℕ) → s ≤ j → j < s + c → bitAt (putBits m (numbersFrom s c) v) j ≡ v
+  run-inside j low high =
+      let e : getD (numbersFrom s c) (j - s) 0 ≡ j = numbersFrom-at s c (j - s) (omega arith) ∙ omega arith in
+      ap (bitAt (putBits m (numbersFrom s c) v)) (sym e) ∙ run .inside (j - s) (omega (arith, numbersFrom-length s c))
+
+  pub run-outside : (j : ℕ) → Outside s c j → bitAt (putBits m (numbersFrom s c) v) j ≡ bitAt m j
+  run-outside j out =
+      run .outside j
+      (λ p l e.
+      let small : p < c = omega (arith, numbersFrom-length s c) in
+      out (omega (arith, numbersFrom-at s c p small)) (omega (arith, numbersFrom-at s c p small)))
