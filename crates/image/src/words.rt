@@ -11,14 +11,19 @@ pub fn byte_or_zero(b: &[u8], at: usize) -> u8
     if at < b.len() { b[at] } else { 0 }
 }
 
+// A byte as a word.
+fn wide(x: u8) -> u16
+    ensures { λ r. ⌜ (r ≡ x) × (r < 256) ⌝ }
+{
+    x as u16
+}
+
 // The word at a place, both of whose bytes the list has.
 pub fn word_at(b: &[u8], at: usize) -> u16
     requires { ⌜ at + 1 < length (now b) ⌝ }
     ensures { λ r. ⌜ r ≡ wordAt (now (b .entry)) at ⌝ }
 {
-    let low = b[at] as u16;
-    let high = b[at + 1] as u16;
-    low + 256 * high
+    wide(b[at]) + 256 * wide(b[at + 1])
 }
 
 // The word at a place; a byte past the end counts as 0.
@@ -28,7 +33,5 @@ pub fn word_or_zero(b: &[u8], at: usize) -> u16
     if b.len() <= at {
         return 0;
     }
-    let low = byte_or_zero(b, at) as u16;
-    let high = byte_or_zero(b, at + 1) as u16;
-    low + 256 * high
+    wide(byte_or_zero(b, at)) + 256 * wide(byte_or_zero(b, at + 1))
 }

@@ -1,5 +1,5 @@
 -- At each turn the running sum is the checksum of the words read so far.
-use mathlib.Core.Path.{_≡_, sym}
+use mathlib.Core.Path.{_≡_}
 use Prim.Native.Nat.{_≤_, _-_}
 use native.Mathlib.Omega.{arith}
 use borrow.Author.Needs.{needs}
@@ -26,5 +26,5 @@ returns c =
 pub checksum-spec : {M : Type 1} → statement M
 checksum-spec =
     tie.close
-    (tie.spec Inv-loop μ-loop (λ c. (search needs, sym (checksum-none _)))
+    (tie.spec Inv-loop μ-loop (λ c. (search needs, cc (checksum-none _)))
     (search needs) (search needs) (search needs) (search needs) (search needs) loop-again returns)
