@@ -1,24 +1,27 @@
 -- Laws of the bits of a map, and of stores of bits.
-use mathlib.Core.Path.{_≡_, refl, sym, ap, _∙_}
+use mathlib.Core.Path.{_≡_, refl, sym, ap, ap₂, _∙_}
 use mathlib.Core.Bool.{Bool, true, _&&_, cond}
 use mathlib.Core.List.{List, [], _∷_, _++_}
 use Prim.Native.Nat.{ℕ, zero, suc, _+_, _-_, _*_, _/_, _%_, _^_, _≤_, _<_}
+use native.Mathlib.Nat.{zero-div}
 use native.Mathlib.Decide.{ℕ-discrete}
 use native.Mathlib.Omega.{arith}
 use borrow.Author.Tests.{leb-true, ltb-true, eqb-true, eq-eqb, ne-eqb}
 use lib.Dec.{leb, ltb, eqb}
-use lib.ListN.{length, getD}
+use lib.ListN.{length, getD, List·getD-eq-default}
 use lib.Seq.{getD-set-same}
 use Rattle.image.specs.Words.{byteAt}
+use Rattle.image.specs.Blocks.{region, block}
 use Rattle.image.specs.Bits.{bitOf, bitAt}
 use Rattle.image.specs.Stores.{withBit, putBit, putBits, numbersFrom}
 use Rattle.image.proofs.WordLaws.{Bytes}
+use Rattle.image.proofs.BlockLaws.{byte-region, byte-block}
 use Rattle.image.proofs.Below.{below, below-at, and-left, and-right}
 use Rattle.image.proofs.Numbers.{numbersFrom-none, numbersFrom-length, numbersFrom-at, numbersFrom-last}
 use Rattle.image.proofs.StoreLaws.{Outside, Agree, agree-refl, agree-trans, agree-weaken, bitAt-agree, putBit-agree, set-bytes}
 
 -- A byte b with its bit k made v, and bit i of it: computed for every byte, both values and all bits.
-pub record Byte (b k v i : ℕ) : Type 0 where
+pub record WithBit (b k v i : ℕ) : Type 0 where
   pub old : bitOf b k * 2 ^ k ≤ b
   pub new : v * 2 ^ k < 256
   pub fits : withBit b k v < 256
@@ -33,9 +36,9 @@ tests : below 256 (λ b. below 8 (λ k. below 2 (λ v. below 8 (λ i. test b k v
 unfolding test
 tests = refl
 
-pub byte : (b k v i : ℕ) → b < 256 → k < 8 → v < 2 → i < 8 → Byte b k v i
+pub withBit-facts : (b k v i : ℕ) → b < 256 → k < 8 → v < 2 → i < 8 → WithBit b k v i
 unfolding test
-byte b k v i hb hk hv hi =
+withBit-facts b k v i hb hk hv hi =
     let at-b = below-at 256 (λ b. below 8 (λ k. below 2 (λ v. below 8 (λ i. test b k v i)))) tests b hb in
     let at-k = below-at 8 (λ k. below 2 (λ v. below 8 (λ i. test b k v i))) at-b k hk in
     let at-v = below-at 2 (λ v. below 8 (λ i. test b k v i)) at-k v hv in
@@ -49,6 +52,23 @@ byte b k v i hb hk hv hi =
       bit = eqb-true (bitOf (withBit b k v) i) (cond (eqb i k) v (bitOf b i)) (and-right (ltb (withBit b k v) 256) _ last);
     }
 
+-- A bit is 0 or 1, and past the end it is 0.
+pub bit-below : (m : List ℕ) (j : ℕ) → bitAt m j < 2
+unfolding bitAt bitOf
+bit-below m j = omega arith
+
+pub bit-past : (m : List ℕ) (j : ℕ) → length m ≤ j / 8 → bitAt m j ≡ 0
+unfolding bitAt bitOf
+bit-past m j h = rw (List·getD-eq-default m 0 h, zero-div) refl
+
+-- A bit of a map of several blocks is a bit of one of them.
+pub bit-region : (image : List ℕ) (k q j : ℕ) → j < 4096 * q → bitAt (region image k q) j ≡ bitAt (block image (k + j / 4096)) (j % 4096)
+unfolding bitAt
+bit-region image k q j h =
+    let byte : byteAt (region image k q) (j / 8) ≡ byteAt (block image (k + j / 4096)) (j % 4096 / 8) =
+    byte-region image k q (j / 8) (omega arith) ∙ ap (byteAt image) (omega arith) ∙ sym (byte-block image (k + j / 4096) (j % 4096 / 8) (omega arith)) in
+    ap₂ bitOf byte (omega arith)
+
 -- One bit of a map.
 module _ (m : List ℕ) (j v : ℕ) (inside : j / 8 < length m) (bytes : Bytes m) (isBit : v < 2) where
   -- A bit of the byte that is stored.
@@ -56,7 +76,7 @@ module _ (m : List ℕ) (j v : ℕ) (inside : j / 8 < length m) (bytes : Bytes m
   unfolding bitAt putBit
   stored i e =
       let x = withBit (byteAt m (j / 8)) (j % 8) v in
-      rw (e, getD-set-same m (j / 8) x 0 inside) (byte (byteAt m (j / 8)) (j % 8) v (i % 8) (bytes (j / 8)) (omega arith) isBit (omega arith) .bit)
+      rw (e, getD-set-same m (j / 8) x 0 inside) (withBit-facts (byteAt m (j / 8)) (j % 8) v (i % 8) (bytes (j / 8)) (omega arith) isBit (omega arith) .bit)
 
   pub putBit-same : bitAt (putBit m j v) j ≡ v
   putBit-same = stored j refl ∙ ap (λ (t : Bool). cond t v (bitAt m j)) (eq-eqb (j % 8) (j % 8) refl)
@@ -70,7 +90,7 @@ module _ (m : List ℕ) (j v : ℕ) (inside : j / 8 < length m) (bytes : Bytes m
 
   pub putBit-bytes : Bytes (putBit m j v)
   unfolding putBit
-  putBit-bytes = set-bytes m (j / 8) (withBit (byteAt m (j / 8)) (j % 8) v) (byte (byteAt m (j / 8)) (j % 8) v 0 (bytes (j / 8)) (omega arith) isBit (omega arith) .fits) bytes
+  putBit-bytes = set-bytes m (j / 8) (withBit (byteAt m (j / 8)) (j % 8) v) (withBit-facts (byteAt m (j / 8)) (j % 8) v 0 (bytes (j / 8)) (omega arith) isBit (omega arith) .fits) bytes
 
 -- The bits of a list.
 

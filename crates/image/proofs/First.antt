@@ -1,9 +1,9 @@
 -- Laws of the first number that passes a test.
 use mathlib.Core.Path.{_≡_, refl, sym, ap, _∙_}
 use mathlib.Core.Bool.{Bool, true, false}
-use mathlib.Core.Logic.{_⊎_, inl, inr}
 use Prim.Native.Nat.{ℕ, zero, suc, _+_, _-_, _≤_, _<_}
 use native.Mathlib.Decide.{ℕ-discrete, decLt}
+use native.Mathlib.Nat.{sub-zero}
 use native.Mathlib.Omega.{arith}
 use Rattle.image.specs.First.{first}
 
@@ -15,7 +15,10 @@ pub record Is (p : ℕ → Bool) (s d t : ℕ) : Type 0 where
   pub here : t < s + d → p t ≡ true
 
 module _ (p : ℕ → Bool) where
-  -- A loop that goes from s up to the end e: at i it has found the number, goes on, or is past the last.
+  -- A loop that goes up to the end e: it starts at 0, and at i it has found the number, goes on, or is past the last.
+  pub first-start : (e : ℕ) → first p 0 e ≡ first p 0 (e - 0)
+  first-start e = rw sub-zero
+
   pub first-here : (i e : ℕ) → i < e → p i ≡ true → first p i (e - i) ≡ i
   unfolding first
   first-here i e l h =

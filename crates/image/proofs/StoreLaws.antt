@@ -2,10 +2,11 @@
 use mathlib.Core.Path.{_≡_, refl, sym, ap, _∙_}
 use mathlib.Core.List.{List, _++_, append-assoc}
 use Prim.Native.Nat.{ℕ, _+_, _*_, _-_, _/_, _%_, _≤_, _<_}
+use native.Mathlib.Nat.{zero-div}
 use native.Mathlib.Decide.{ℕ-discrete, decLt}
 use native.Mathlib.Omega.{arith}
 use lib.ListN.{length, take, drop, set, length-set, length-take, length-drop, length-append, List·getD-append, List·getD-eq-default, length-replicate, getD-replicate, replicate-append-replicate}
-use lib.Seq.{length-take-le, take-at, drop-at, drop-drop, getD-append-add, getD-set-same, getD-set-other, getD-take, getD-drop, ext-getD}
+use lib.Seq.{length-take-le, take-at, drop-at, drop-drop, getD-set-same, getD-set-other, getD-take, getD-drop, ext-getD}
 use Rattle.image.specs.Words.{byteAt, wordAt}
 use Rattle.image.specs.Blocks.{region, block}
 use Rattle.image.specs.Sums.{checksum}
@@ -130,6 +131,11 @@ module _ (b : List ℕ) (at : ℕ) (s : List ℕ) (inside : at ≤ length b) whe
   splice-after : drop (at + length s) (splice b at s) ≡ drop (at + length s) b
   splice-after = sym (drop-drop (length s) at (splice b at s)) ∙ ap (drop (length s)) splice-rest ∙ drop-at s (drop (at + length s) b) (length s) refl
 
+  -- A part that was lent and came back as s.
+  pub part-splice : (n : ℕ) → length s ≡ n → take at b ++ (s ++ drop n (drop at b)) ≡ splice b at s
+  unfolding splice
+  part-splice n e = rw (← e, drop-drop)
+
   -- Two runs, the second right behind the first, are one.
   pub splice-splice : (u : List ℕ) → splice (splice b at s) (at + length s) u ≡ splice b at (s ++ u)
   unfolding splice
@@ -194,6 +200,10 @@ zeros-byte n i = go (decLt i n)
 pub zeros-word : (n at : ℕ) → wordAt (zeros n) at ≡ 0
 unfolding wordAt
 zeros-word n at = omega (arith, zeros-byte n at, zeros-byte n (at + 1))
+
+pub zeros-bit : (n j : ℕ) → bitAt (zeros n) j ≡ 0
+unfolding bitAt bitOf
+zeros-bit n j = rw (zeros-byte n (j / 8), zero-div) refl
 
 pub zeros-bytes : (n : ℕ) → Bytes (zeros n)
 zeros-bytes n i = omega (arith, zeros-byte n i)

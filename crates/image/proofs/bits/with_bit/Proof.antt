@@ -3,12 +3,12 @@ use native.Mathlib.Omega.{arith}
 use borrow.Author.Needs.{needs}
 use Rattle.image.specs.Bits.{bitOf}
 use Rattle.image.specs.Stores.{withBit}
-use Rattle.image.proofs.BitLaws.{Byte, byte}
+use Rattle.image.proofs.BitLaws.{WithBit, withBit-facts}
 use Rattle.image.proofs.bits.with_bit.Statement.{statement}
 use Rattle.image.proofs.bits.with_bit.Tie as tie
 
-known : (c : tie.Start) → Byte (c .args .b) (c .args .k) (c .args .v) 0
-known c = byte (c .args .b) (c .args .k) (c .args .v) 0 (omega arith) (omega arith) (omega arith) (omega arith)
+known : (c : tie.Start) → WithBit (c .args .b) (c .args .k) (c .args .v) 0
+known c = withBit-facts (c .args .b) (c .args .k) (c .args .v) 0 (omega arith) (omega arith) (omega arith) (omega arith)
 
 sub-result : tie.Need-sub-result
 unfolding bitOf
