@@ -1,6 +1,6 @@
 -- Laws of the bits of a map, and of stores of bits.
 use mathlib.Core.Path.{_≡_, refl, sym, ap, ap₂, _∙_}
-use mathlib.Core.Bool.{Bool, true, _&&_, cond}
+use mathlib.Core.Bool.{Bool, true, _&&_, cond, and-eq-true-iff}
 use mathlib.Core.List.{List, [], _∷_, _++_}
 use Prim.Native.Nat.{ℕ, zero, suc, _+_, _-_, _*_, _/_, _%_, _^_, _≤_, _<_}
 use native.Mathlib.Nat.{zero-div}
@@ -16,7 +16,7 @@ use Rattle.image.specs.Bits.{bitOf, bitAt}
 use Rattle.image.specs.Stores.{withBit, putBit, putBits, numbersFrom}
 use Rattle.image.proofs.WordLaws.{Bytes}
 use Rattle.image.proofs.BlockLaws.{byte-region, byte-block}
-use Rattle.image.proofs.Below.{below, below-at, and-left, and-right}
+use Rattle.image.proofs.Below.{below, below-at}
 use Rattle.image.proofs.Numbers.{numbersFrom-none, numbersFrom-length, numbersFrom-at, numbersFrom-last}
 use Rattle.image.proofs.StoreLaws.{Outside, Agree, agree-refl, agree-trans, agree-weaken, bitAt-agree, putBit-agree, set-bytes}
 
@@ -43,13 +43,14 @@ withBit-facts b k v i hb hk hv hi =
     let at-k = below-at 8 (λ k. below 2 (λ v. below 8 (λ i. test b k v i))) at-b k hk in
     let at-v = below-at 2 (λ v. below 8 (λ i. test b k v i)) at-k v hv in
     let all = below-at 8 (λ i. test b k v i) at-v i hi in
-    let rest = and-right (leb (bitOf b k * 2 ^ k) b) _ all in
-    let last = and-right (ltb (v * 2 ^ k) 256) _ rest in
+    let first = and-eq-true-iff (leb (bitOf b k * 2 ^ k) b) _ .0 all in
+    let second = and-eq-true-iff (ltb (v * 2 ^ k) 256) _ .0 (first .1) in
+    let third = and-eq-true-iff (ltb (withBit b k v) 256) _ .0 (second .1) in
     record {
-      old = leb-true (bitOf b k * 2 ^ k) b (and-left (leb (bitOf b k * 2 ^ k) b) _ all);
-      new = ltb-true (v * 2 ^ k) 256 (and-left (ltb (v * 2 ^ k) 256) _ rest);
-      fits = ltb-true (withBit b k v) 256 (and-left (ltb (withBit b k v) 256) _ last);
-      bit = eqb-true (bitOf (withBit b k v) i) (cond (eqb i k) v (bitOf b i)) (and-right (ltb (withBit b k v) 256) _ last);
+      old = leb-true (bitOf b k * 2 ^ k) b (first .0);
+      new = ltb-true (v * 2 ^ k) 256 (second .0);
+      fits = ltb-true (withBit b k v) 256 (third .0);
+      bit = eqb-true (bitOf (withBit b k v) i) (cond (eqb i k) v (bitOf b i)) (third .1);
     }
 
 -- A bit is 0 or 1, and past the end it is 0.

@@ -15,7 +15,9 @@ abbrev μ-loop : tie.MeasureT-loop
 μ-loop b n sum₀ i₀ sum i = n - i
 
 loop-again : tie.Need-loop-again Inv-loop μ-loop
-loop-again c = (search needs, cc (checksum-more _ _))
+loop-again c =
+    let l = c .before .before .before in
+    (search needs, omega (arith, checksum-more (l .before .before .args .b .now) (l .loop .i)))
 
 returns : tie.Need-returns Inv-loop μ-loop
 returns c =
@@ -26,5 +28,5 @@ returns c =
 pub checksum-spec : {M : Type 1} → statement M
 checksum-spec =
     tie.close
-    (tie.spec Inv-loop μ-loop (λ c. (search needs, cc (checksum-none _)))
+    (tie.spec Inv-loop μ-loop (λ c. (search needs, omega (arith, checksum-none (c .before .args .b .now))))
     (search needs) (search needs) (search needs) (search needs) (search needs) loop-again returns)
