@@ -106,6 +106,11 @@ pub splice-length : (b : List ℕ) (at : ℕ) (s : List ℕ) → at + length s �
 unfolding splice
 splice-length b at s h = simp (length-append, length-take, length-drop) (omega arith)
 
+-- A part of n bytes that was lent to a function and came back as s.
+pub part-splice : (b : List ℕ) (at n : ℕ) (s : List ℕ) → length s ≡ n → take at b ++ (s ++ drop n (drop at b)) ≡ splice b at s
+unfolding splice
+part-splice b at n s e = rw (← e, drop-drop)
+
 module _ (b : List ℕ) (at : ℕ) (s : List ℕ) (inside : at ≤ length b) where
   head : length (take at b) ≡ at
   head = length-take-le at b inside
@@ -130,11 +135,6 @@ module _ (b : List ℕ) (at : ℕ) (s : List ℕ) (inside : at ≤ length b) whe
 
   splice-after : drop (at + length s) (splice b at s) ≡ drop (at + length s) b
   splice-after = sym (drop-drop (length s) at (splice b at s)) ∙ ap (drop (length s)) splice-rest ∙ drop-at s (drop (at + length s) b) (length s) refl
-
-  -- A part that was lent and came back as s.
-  pub part-splice : (n : ℕ) → length s ≡ n → take at b ++ (s ++ drop n (drop at b)) ≡ splice b at s
-  unfolding splice
-  part-splice n e = rw (← e, drop-drop)
 
   -- Two runs, the second right behind the first, are one.
   pub splice-splice : (u : List ℕ) → splice (splice b at s) (at + length s) u ≡ splice b at (s ++ u)
