@@ -10,11 +10,10 @@ use borrow.Author.Tests.{leb-true, ltb-true, eqb-true, eq-eqb, ne-eqb}
 use lib.Dec.{leb, ltb, eqb}
 use lib.ListN.{length, getD, List·getD-eq-default}
 use lib.Seq.{getD-set-same}
-use Rattle.image.specs.Words.{byteAt}
+use Rattle.image.specs.Words.{byteAt, Bytes}
 use Rattle.image.specs.Blocks.{region, block}
 use Rattle.image.specs.Bits.{bitOf, bitAt}
 use Rattle.image.specs.Stores.{withBit, putBit, putBits, numbersFrom}
-use Rattle.image.proofs.WordLaws.{Bytes}
 use Rattle.image.proofs.BlockLaws.{byte-region, byte-block}
 use Rattle.image.proofs.Below.{below, below-at}
 use Rattle.image.proofs.Numbers.{numbersFrom-none, numbersFrom-length, numbersFrom-at, numbersFrom-last}
@@ -77,7 +76,7 @@ module _ (m : List ℕ) (j v : ℕ) (inside : j / 8 < length m) (bytes : Bytes m
   unfolding bitAt putBit
   stored i e =
       let x = withBit (byteAt m (j / 8)) (j % 8) v in
-      rw (e, getD-set-same m (j / 8) x 0 inside) (withBit-facts (byteAt m (j / 8)) (j % 8) v (i % 8) (bytes (j / 8)) (omega arith) isBit (omega arith) .bit)
+      rw (e, getD-set-same m (j / 8) x 0 inside) (withBit-facts (byteAt m (j / 8)) (j % 8) v (i % 8) (bytes .each (j / 8)) (omega arith) isBit (omega arith) .bit)
 
   pub putBit-same : bitAt (putBit m j v) j ≡ v
   putBit-same = stored j refl ∙ ap (λ (t : Bool). cond t v (bitAt m j)) (eq-eqb (j % 8) (j % 8) refl)
@@ -91,7 +90,7 @@ module _ (m : List ℕ) (j v : ℕ) (inside : j / 8 < length m) (bytes : Bytes m
 
   pub putBit-bytes : Bytes (putBit m j v)
   unfolding putBit
-  putBit-bytes = set-bytes m (j / 8) (withBit (byteAt m (j / 8)) (j % 8) v) (withBit-facts (byteAt m (j / 8)) (j % 8) v 0 (bytes (j / 8)) (omega arith) isBit (omega arith) .fits) bytes
+  putBit-bytes = set-bytes (j / 8) (withBit (byteAt m (j / 8)) (j % 8) v) (withBit-facts (byteAt m (j / 8)) (j % 8) v 0 (bytes .each (j / 8)) (omega arith) isBit (omega arith) .fits) bytes
 
 -- The bits of a list.
 

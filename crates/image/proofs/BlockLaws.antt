@@ -6,9 +6,9 @@ use native.Mathlib.Decide.{decLt}
 use native.Mathlib.Omega.{arith}
 use lib.ListN.{length, drop, length-take, length-drop, List·getD-eq-default}
 use lib.Seq.{ext-getD, getD-take, getD-drop}
-use Rattle.image.specs.Words.{byteAt, wordAt}
+use Rattle.image.specs.Words.{byteAt, Bytes, wordAt}
 use Rattle.image.specs.Blocks.{region, block}
-use Rattle.image.proofs.WordLaws.{Bytes, word-same}
+use Rattle.image.proofs.WordLaws.{word-same}
 
 module _ (image : List ℕ) (k q : ℕ) where
   -- At most the whole region; all of it where it lies inside the image.
@@ -29,11 +29,11 @@ module _ (image : List ℕ) (k q : ℕ) where
       word-same (region image k q) image i (512 * k + i) (byte-region i (omega arith)) (byte-region (i + 1) h ∙ ap (byteAt image) (omega arith))
 
   pub region-bytes : Bytes image → Bytes (region image k q)
-  region-bytes bytes i = go (decLt i (512 * q))
+  region-bytes bytes = record { each = λ i. go i (decLt i (512 * q)) }
     where
-      go : Dec (i < 512 * q) → byteAt (region image k q) i < 256
-      go (yes h) = rw (byte-region i h) (bytes (512 * k + i))
-      go (no h) = omega (arith, List·getD-eq-default (region image k q) 0 {n = i} (omega (arith, region-most)))
+      go : (i : ℕ) → Dec (i < 512 * q) → byteAt (region image k q) i < 256
+      go i (yes h) = rw (byte-region i h) (bytes .each (512 * k + i))
+      go i (no h) = omega (arith, List·getD-eq-default (region image k q) 0 {n = i} (omega (arith, region-most)))
 
 -- The p blocks from block i of the region on are those from block k + i of the image on.
 pub region-region : (image : List ℕ) (k q i p : ℕ) → i + p ≤ q → region (region image k q) i p ≡ region image (k + i) p

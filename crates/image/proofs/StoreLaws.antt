@@ -1,18 +1,19 @@
 -- Laws of stores: what each leaves as it was, and what is read back.
 use mathlib.Core.Path.{_≡_, refl, sym, ap, _∙_}
-use mathlib.Core.List.{List, _++_, append-assoc}
+use mathlib.Core.List.{List, [], _∷_, _++_, append-assoc}
 use Prim.Native.Nat.{ℕ, _+_, _*_, _-_, _/_, _%_, _≤_, _<_}
-use native.Mathlib.Nat.{zero-div}
+use native.Mathlib.Nat.{add-zero, zero-div}
+use native.Mathlib.Numerals.{add-one}
 use native.Mathlib.Decide.{ℕ-discrete, decLt}
 use native.Mathlib.Omega.{arith}
-use lib.ListN.{length, take, drop, set, length-set, length-take, length-drop, length-append, List·getD-append, List·getD-eq-default, length-replicate, getD-replicate, replicate-append-replicate}
-use lib.Seq.{length-take-le, take-at, drop-at, drop-drop, getD-set-same, getD-set-other, getD-take, getD-drop, ext-getD}
-use Rattle.image.specs.Words.{byteAt, wordAt}
+use lib.ListN.{length, take, drop, set, length-set, length-take, length-drop, length-append, take-append-drop, List·getD-append, List·getD-eq-default, length-replicate, getD-replicate, replicate-append-replicate}
+use lib.Seq.{length-take-le, take-at, drop-at, drop-drop, set-split, getD-set-same, getD-set-other, getD-take, getD-drop, ext-getD}
+use Rattle.image.specs.Words.{byteAt, Bytes, wordAt}
 use Rattle.image.specs.Blocks.{region, block}
 use Rattle.image.specs.Sums.{checksum}
 use Rattle.image.specs.Bits.{bitOf, bitAt}
 use Rattle.image.specs.Stores.{putWord, splice, zeros, putBit}
-use Rattle.image.proofs.WordLaws.{Bytes, word-same}
+use Rattle.image.proofs.WordLaws.{word-same}
 use Rattle.image.proofs.BlockLaws.{region-most, byte-region, region-one, byte-block}
 use Rattle.image.proofs.SumLaws.{checksum-same}
 
@@ -62,13 +63,13 @@ module _ {P : ℕ → Type 0} {b b′ : List ℕ} (a : Agree P b b′) where
 pub set-agree : (b : List ℕ) (i x : ℕ) → Agree (Outside i 1) b (set b i x)
 set-agree b i x = record { len = length-set b i x; same = λ j p. getD-set-other b i j x 0 (λ e. p (omega arith) (omega arith)) }
 
-pub set-bytes : (b : List ℕ) (i x : ℕ) → x < 256 → Bytes b → Bytes (set b i x)
-set-bytes b i x h bytes j = go (ℕ-discrete j i) (decLt i (length b))
+pub set-bytes : {b : List ℕ} (i x : ℕ) → x < 256 → Bytes b → Bytes (set b i x)
+set-bytes {b} i x h bytes = record { each = λ j. go j (ℕ-discrete j i) (decLt i (length b)) }
   where
-    go : Dec (j ≡ i) → Dec (i < length b) → byteAt (set b i x) j < 256
-    go (no ne) d = rw (getD-set-other b i j x 0 ne) (bytes j)
-    go (yes e) (yes l) = rw (e, getD-set-same b i x 0 l) h
-    go (yes e) (no l) = omega (arith, List·getD-eq-default (set b i x) 0 {n = j} (simp length-set (omega arith)))
+    go : (j : ℕ) → Dec (j ≡ i) → Dec (i < length b) → byteAt (set b i x) j < 256
+    go j (no ne) d = rw (getD-set-other b i j x 0 ne) (bytes .each j)
+    go j (yes e) (yes l) = rw (e, getD-set-same b i x 0 l) h
+    go j (yes e) (no l) = omega (arith, List·getD-eq-default (set b i x) 0 {n = j} (simp length-set (omega arith)))
 
 -- One word.
 
@@ -86,9 +87,9 @@ putWord-word b at v h =
     rw (getD-set-other low (at + 1) at (v / 256) 0 (omega arith), getD-set-same b at (v % 256) 0 (omega arith), getD-set-same low (at + 1) (v / 256) 0 (simp length-set h))
     (omega arith)
 
-pub putWord-bytes : (b : List ℕ) (at v : ℕ) → v < 65536 → Bytes b → Bytes (putWord b at v)
+pub putWord-bytes : {b : List ℕ} (at v : ℕ) → v < 65536 → Bytes b → Bytes (putWord b at v)
 unfolding putWord
-putWord-bytes b at v h bytes = set-bytes (set b at (v % 256)) (at + 1) (v / 256) (omega arith) (set-bytes b at (v % 256) (omega arith) bytes)
+putWord-bytes at v h bytes = set-bytes (at + 1) (v / 256) (omega arith) (set-bytes at (v % 256) (omega arith) bytes)
 
 -- A store after the words that are summed.
 pub putWord-checksum : (b : List ℕ) (at v n : ℕ) → 2 * n ≤ at → checksum (putWord b at v) n ≡ checksum b n
@@ -100,7 +101,15 @@ pub putBit-agree : (m : List ℕ) (j v : ℕ) → Agree (Outside (j / 8) 1) m (p
 unfolding putBit
 putBit-agree m j v = set-agree m (j / 8) _
 
--- A run of bytes.
+-- A run of bytes; none, and one, are stores that we know.
+
+pub splice-none : (b : List ℕ) (at : ℕ) → splice b at [] ≡ b
+unfolding splice
+splice-none b at = rw (add-zero at) (take-append-drop at b)
+
+pub set-splice : (b : List ℕ) (at x : ℕ) → at < length b → set b at x ≡ splice b at (x ∷ [])
+unfolding splice
+set-splice b at x h = rw (add-one at) (set-split b at x h)
 
 pub splice-length : (b : List ℕ) (at : ℕ) (s : List ℕ) → at + length s ≤ length b → length (splice b at s) ≡ length b
 unfolding splice
@@ -162,18 +171,18 @@ splice-agree b at s h = record { len = splice-length b at s h; same = λ j p. go
         ∙ getD-drop (at + length s) b n 0
         ∙ ap (byteAt b) e
 
-pub splice-bytes : (b : List ℕ) (at : ℕ) (s : List ℕ) → at + length s ≤ length b → Bytes b → Bytes s → Bytes (splice b at s)
-splice-bytes b at s h bytes news j = go (decLt j at) (decLt j (at + length s))
+pub splice-bytes : {b s : List ℕ} (at : ℕ) → at + length s ≤ length b → Bytes b → Bytes s → Bytes (splice b at s)
+splice-bytes {b} {s} at h bytes news = record { each = λ j. go j (decLt j at) (decLt j (at + length s)) }
   where
-    kept : Outside at (length s) j → byteAt (splice b at s) j < 256
-    kept o = rw (splice-agree b at s h .same j o) (bytes j)
+    kept : (j : ℕ) → Outside at (length s) j → byteAt (splice b at s) j < 256
+    kept j o = rw (splice-agree b at s h .same j o) (bytes .each j)
 
-    go : Dec (j < at) → Dec (j < at + length s) → byteAt (splice b at s) j < 256
-    go (yes p) d = kept (λ x y. omega arith)
-    go (no p) (no q) = kept (λ x y. omega arith)
-    go (no p) (yes q) =
+    go : (j : ℕ) → Dec (j < at) → Dec (j < at + length s) → byteAt (splice b at s) j < 256
+    go j (yes p) d = kept j (λ x y. omega arith)
+    go j (no p) (no q) = kept j (λ x y. omega arith)
+    go j (no p) (yes q) =
         let e : at + (j - at) ≡ j = omega arith in
-        rw (← e) (rw (splice-byte b at s (omega arith) (j - at) (omega arith)) (news (j - at)))
+        rw (← e) (rw (splice-byte b at s (omega arith) (j - at) (omega arith)) (news .each (j - at)))
 
 -- Whole blocks that were written are read back.
 pub splice-region : (image : List ℕ) (k q : ℕ) (s : List ℕ) → length s ≡ 512 * q → 512 * k ≤ length image → region (splice image (512 * k) s) k q ≡ s
@@ -206,7 +215,7 @@ unfolding bitAt bitOf
 zeros-bit n j = rw (zeros-byte n (j / 8), zero-div) refl
 
 pub zeros-bytes : (n : ℕ) → Bytes (zeros n)
-zeros-bytes n i = omega (arith, zeros-byte n i)
+zeros-bytes n = record { each = λ i. omega (arith, zeros-byte n i) }
 
 pub zeros-append : (n m : ℕ) → zeros n ++ zeros m ≡ zeros (n + m)
 unfolding zeros

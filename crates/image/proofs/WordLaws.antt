@@ -4,11 +4,7 @@ use mathlib.Core.List.{List}
 use Prim.Native.Nat.{ℕ, _+_, _/_, _%_, _≤_, _<_}
 use native.Mathlib.Omega.{arith}
 use lib.ListN.{length, List·getD-eq-default}
-use Rattle.image.specs.Words.{byteAt, wordAt}
-
--- Each element is a byte. (Past the end it is 0.)
-abbrev pub Bytes : List ℕ → Type 0
-Bytes b = (i : ℕ) → byteAt b i < 256
+use Rattle.image.specs.Words.{byteAt, Bytes, wordAt}
 
 pub word-past : (b : List ℕ) (at : ℕ) → length b ≤ at → wordAt b at ≡ 0
 unfolding wordAt
@@ -22,12 +18,12 @@ word-same b b′ at at′ low high = cc
 module _ (b : List ℕ) (bytes : Bytes b) (at : ℕ) where
   pub word-below : wordAt b at < 65536
   unfolding wordAt
-  word-below = omega (arith, bytes at, bytes (at + 1))
+  word-below = omega (arith, bytes .each at, bytes .each (at + 1))
 
   pub word-low : wordAt b at % 256 ≡ byteAt b at
   unfolding wordAt
-  word-low = omega (arith, bytes at)
+  word-low = omega (arith, bytes .each at)
 
   pub word-high : wordAt b at / 256 ≡ byteAt b (at + 1)
   unfolding wordAt
-  word-high = omega (arith, bytes at)
+  word-high = omega (arith, bytes .each at)
