@@ -1,0 +1,96 @@
+-- Laws of the parts of a text: runs of capitals and digits, their codes, and the digits of a version. Assumes nothing.
+use mathlib.Core.Path.{_≡_, refl, ap, _∙_}
+use mathlib.Core.Bool.{true, false, _&&_}
+use mathlib.Core.List.{List, [], _∷_, _++_}
+use Prim.Native.Nat.{ℕ, zero, suc, _+_, _*_, _-_, _^_, _≤_, _<_}
+use native.Mathlib.Nat.{pow-le-pow-right}
+use native.Mathlib.Decide.{decLt}
+use native.Mathlib.Numerals.{add-one}
+use native.Mathlib.Omega.{arith}
+use borrow.Author.Tests.{not-false}
+use lib.ListN.{length, getD, take, length-append, List·getD-append, List·getD-eq-default}
+use lib.Seq.{length-take-le, getD-take, getD-append-seam}
+use Rattle.image.specs.Words.{byteAt}
+use Rattle.image.proofs.First.{first-has, first-is}
+use Rattle.radix50.specs.Table.{codeOf, isDigit, isNameChar}
+use Rattle.radix50.specs.Parse.{endsAt, span, Part, codeAt, valueTo, digitsTo}
+use Rattle.radix50.proofs.TableLaws.{coded, blank-code}
+
+-- ---- the run at the start
+
+pub span-most : (t : List ℕ) → span t ≤ length t
+unfolding span
+span-most t = omega (arith, first-has (endsAt t) 0 (length t) .high)
+
+pub span-part : (t : List ℕ) → Part (take (span t) t)
+unfolding span endsAt
+span-part t = record {
+  each = λ j h.
+      let l : j < span t = omega (arith, length-take-le (span t) t (span-most t)) in
+      rw (getD-take (span t) t j 0 l) (not-false (isNameChar (byteAt t j)) (first-has (endsAt t) 0 (length t) .before j (omega arith) l));
+}
+
+-- A character that is not 0 stands inside the text.
+pub inside : (t : List ℕ) (i x : ℕ) → byteAt t i ≡ x → 0 < x → i < length t
+inside t i x e h = go (decLt i (length t))
+  where
+    go : Dec (i < length t) → i < length t
+    go (yes l) = l
+    go (no l) = absurd (omega (arith, List·getD-eq-default t 0 {n = i} (omega arith)))
+
+-- A run of capitals and digits that another character ends.
+pub span-is : (p : List ℕ) (x : ℕ) (s : List ℕ) → Part p → isNameChar x ≡ false → span (p ++ (x ∷ s)) ≡ length p
+unfolding span endsAt
+span-is p x s part ends =
+    let t = p ++ (x ∷ s) in
+    first-is (endsAt t) 0 (length t) (length p) (record {
+      low = omega arith;
+      high = omega (arith, length-append p (x ∷ s));
+      before = λ i a h. rw (List·getD-append p (x ∷ s) 0 i h, part .each i h);
+      here = λ h. rw (getD-append-seam p x s 0, ends);
+    })
+
+-- ---- the codes of a part
+
+getD-any : (l : List ℕ) (j a b : ℕ) → j < length l → getD l j a ≡ getD l j b
+getD-any [] j a b h = absurd (omega arith)
+getD-any (x ∷ l) zero a b h = refl
+getD-any (x ∷ l) (suc j) a b h = getD-any l j a b (omega arith)
+
+module _ (p : List ℕ) (j : ℕ) where
+  pub code-in : j < length p → codeAt p j ≡ codeOf (byteAt p j)
+  unfolding codeAt
+  code-in h = ap codeOf (getD-any p j 32 0 h)
+
+  pub code-past : length p ≤ j → codeAt p j ≡ 0
+  unfolding codeAt
+  code-past h = ap codeOf (List·getD-eq-default p 32 h) ∙ blank-code
+
+  pub code-small : Part p → codeAt p j < 40
+  code-small part = go (decLt j (length p))
+    where
+      go : Dec (j < length p) → codeAt p j < 40
+      go (yes h) = rw (code-in h) (coded (byteAt p j) (part .each j h) .small)
+      go (no h) = rw (code-past (omega arith)) (omega arith)
+
+-- ---- the digits of a version
+
+pub tens : (i : ℕ) → i ≤ 5 → 10 ^ i ≤ 100000
+tens i h = pow-le-pow-right (omega arith) h
+
+module _ (d : List ℕ) where
+  pub value-none : valueTo d 0 ≡ 0
+  unfolding valueTo
+  value-none = refl
+
+  pub value-more : (i : ℕ) → valueTo d (i + 1) ≡ 10 * valueTo d i + (byteAt d i - 48)
+  unfolding valueTo
+  value-more i = rw (add-one i)
+
+  pub digits-to-none : digitsTo d 0 ≡ true
+  unfolding digitsTo
+  digits-to-none = refl
+
+  pub digits-to-more : (i : ℕ) → digitsTo d (i + 1) ≡ (digitsTo d i && isDigit (byteAt d i))
+  unfolding digitsTo
+  digits-to-more i = rw (add-one i)

@@ -1,0 +1,77 @@
+-- The name of a text.
+-- 01, Names and directories: "Text: `NAME.TYP;V`, the dot always there, V decimal without leading zero, nothing after it; room for 19 bytes."
+use mathlib.Core.Path.{_≡_}
+use mathlib.Core.Bool.{Bool, true, cond, not, _&&_}
+use mathlib.Core.List.{List}
+use Prim.Native.Nat.{ℕ, zero, suc, _+_, _*_, _-_, _<_}
+use lib.Dec.{eqb, leb}
+use lib.ListN.{length, getD, take, drop}
+use Rattle.image.specs.Words.{byteAt}
+use Rattle.image.specs.First.{first}
+use Rattle.answer.specs.declared.types.Name.{Name}
+use Rattle.answer.specs.declared.refusal.Refusal.the-variants as refusal
+use Rattle.radix50.specs.declared.parse.Named.{Named}
+use Rattle.radix50.specs.declared.parse.Named.the-variants.{Done, Refused}
+use Rattle.radix50.specs.Table.{codeOf, isDigit, isNameChar}
+use Rattle.radix50.specs.Words.{wordOf}
+
+-- How many capitals and digits a text begins with.
+unfoldable pub endsAt : List ℕ → ℕ → Bool
+endsAt t i = not (isNameChar (byteAt t i))
+
+unfoldable pub span : List ℕ → ℕ
+span t = first (endsAt t) 0 (length t)
+
+-- A part of a text, of capitals and digits only: what stands before the dot, or between the dot and the semicolon.
+pub record Part (p : List ℕ) : Type 0 where
+  pub each : (j : ℕ) → j < length p → isNameChar (byteAt p j) ≡ true
+
+-- The code of character j of a part; past the part's end there are blanks.
+unfoldable pub codeAt : List ℕ → ℕ → ℕ
+codeAt p j = codeOf (getD p j 32)
+
+-- Word i of a part, from 0.
+unfoldable pub partWord : List ℕ → ℕ → ℕ
+partWord p i = wordOf (codeAt p (3 * i)) (codeAt p (3 * i + 1)) (codeAt p (3 * i + 2))
+
+-- The number that the first k digits of a text write.
+unfoldable pub valueTo : List ℕ → ℕ → ℕ
+valueTo d zero = 0
+valueTo d (suc k) = 10 * valueTo d k + (byteAt d k - 48)
+
+unfoldable pub digitsTo : List ℕ → ℕ → Bool
+digitsTo d zero = true
+digitsTo d (suc k) = digitsTo d k && isDigit (byteAt d k)
+
+-- A version's text: one to five digits, the first not 0, and at most 32,767.
+unfoldable pub isVersion : List ℕ → Bool
+isVersion d =
+    leb 1 (length d) && leb (length d) 5 && digitsTo d (length d) && not (eqb (byteAt d 0) 48) && leb (valueTo d (length d)) 32767
+
+-- The name that a name part, a type part and a version write.
+unfoldable pub nameOf : List ℕ → List ℕ → List ℕ → Name
+nameOf p y d = record {
+  name1 = partWord p 0;
+  name2 = partWord p 1;
+  name3 = partWord p 2;
+  typ = partWord y 0;
+  version = valueTo d (length d);
+}
+
+-- The name part p and the type part y are read, and d is left.
+unfoldable pub withVersion : List ℕ → List ℕ → List ℕ → Named
+withVersion p y d = cond (isVersion d) (Done (nameOf p y d)) (Refused refusal.Name)
+
+-- The name part p is read, and s, what follows the dot, is left: at most three capitals or digits, then a semicolon.
+unfoldable pub withType : List ℕ → List ℕ → Named
+withType p s =
+    cond (leb (span s) 3 && eqb (byteAt s (span s)) 59)
+    (withVersion p (take (span s) s) (drop (span s + 1) s))
+    (Refused refusal.Name)
+
+-- The answer of the call from text to words: one to nine capitals or digits, then a dot. 01, Answer numbers: NAME, "not proper, text or words".
+unfoldable pub textToName : List ℕ → Named
+textToName t =
+    cond (leb 1 (span t) && leb (span t) 9 && eqb (byteAt t (span t)) 46)
+    (withType (take (span t) t) (drop (span t + 1) t))
+    (Refused refusal.Name)

@@ -1,0 +1,47 @@
+-- The text of a name.
+-- 01, Names and directories: "Text: `NAME.TYP;V`, the dot always there, V decimal without leading zero, nothing after it; room for 19 bytes."
+use mathlib.Core.Bool.{cond}
+use mathlib.Core.List.{List, [], _∷_, _++_}
+use Prim.Native.Nat.{ℕ, zero, suc, _+_, _/_, _%_}
+use lib.Dec.{eqb, ltb}
+use lib.ListN.{length}
+use Rattle.image.specs.Stores.{splice}
+use Rattle.answer.specs.declared.types.Name.{Name}
+use Rattle.answer.specs.declared.refusal.Refusal.the-variants as refusal
+use Rattle.radix50.specs.declared.text.Written.{Written}
+use Rattle.radix50.specs.declared.text.Written.the-variants.{Done, Refused}
+use Rattle.radix50.specs.Table.{charOf}
+use Rattle.radix50.specs.Words.{codes}
+use Rattle.radix50.specs.Names.{nameCodes, proper}
+
+-- The characters of codes, without the blanks.
+unfoldable pub kept : List ℕ → List ℕ
+kept [] = []
+kept (c ∷ cs) = cond (eqb c 0) (kept cs) (charOf c ∷ kept cs)
+
+-- The decimal digits of a number of at most k digits, without leading zero.
+unfoldable pub digits : ℕ → ℕ → List ℕ
+digits zero v = []
+digits (suc k) v =
+    let high = digits k (v / 10) in
+    cond (ltb v 10) ((48 + v) ∷ []) (high ++ ((48 + v % 10) ∷ []))
+
+-- "V decimal without leading zero": a version has at most five digits.
+unfoldable pub decimal : ℕ → List ℕ
+decimal v = digits 5 v
+
+-- The text of a name: its characters, a dot, the characters of its type, a semicolon, its version.
+unfoldable pub nameText : Name → List ℕ
+nameText n = kept (nameCodes n) ++ (46 ∷ (kept (codes (n .typ)) ++ (59 ∷ decimal (n .version))))
+
+-- The answer of the call from words to text, for a buffer of so many bytes. 01, Answer numbers: "Text calls: 28, then 14."
+unfoldable pub nameToText : Name → ℕ → Written
+nameToText n room =
+    cond (ltb room 19) (Refused refusal.Room)
+    (cond (proper n) (Done (length (nameText n))) (Refused refusal.Name))
+
+-- The buffer after that call. 01, Answer numbers: "Output buffers are unchanged" by a refusal; "Bytes after what is written stay."
+unfoldable pub textAfter : Name → List ℕ → List ℕ
+textAfter n text =
+    cond (ltb (length text) 19) text
+    (cond (proper n) (splice text 0 (nameText n)) text)
