@@ -1,0 +1,23 @@
+-- The answer words of the text calls.
+use Prim.Native.Nat.{ℕ}
+use mathlib.Core.List.{List, [], _∷_}
+use Rattle.answer.specs.declared.types.Name.{Name}
+use Rattle.answer.specs.Words.{doneWords, refusedWords}
+use Rattle.radix50.specs.declared.parse.Named.{Named}
+use Rattle.radix50.specs.declared.parse.Named.the-variants as named
+use Rattle.radix50.specs.declared.text.Written.{Written}
+use Rattle.radix50.specs.declared.text.Written.the-variants as written
+
+-- 01, The work and its edge: "take a name as its five words".
+abbrev pub ofWords : ℕ → ℕ → ℕ → ℕ → ℕ → Name
+ofWords name1 name2 name3 typ version = record { name1 = name1; name2 = name2; name3 = name3; typ = typ; version = version }
+
+-- 01, Answer numbers: DONE has as value the "name words".
+abbrev pub namedWords : Named → List ℕ
+namedWords (named.Done n) = doneWords (n .name1 ∷ n .name2 ∷ n .name3 ∷ n .typ ∷ n .version ∷ [])
+namedWords (named.Refused r) = refusedWords r
+
+-- 01, Answer numbers: DONE has as value the "text length".
+abbrev pub writtenWords : Written → List ℕ
+writtenWords (written.Done n) = doneWords (n ∷ [])
+writtenWords (written.Refused r) = refusedWords r

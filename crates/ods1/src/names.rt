@@ -1,0 +1,82 @@
+// Names as text, and text as names.
+use answer::types::Name;
+use answer::words::put_done;
+use answer::words::put_refused;
+use radix50::Named;
+use radix50::Written;
+use radix50::name_to_text;
+use radix50::text_to_name;
+ghost use mathlib.Core.Path.{_≡_};
+ghost use lib.ListN.{length};
+ghost use Rattle.radix50.specs.Text.{nameToText, textAfter};
+ghost use Rattle.radix50.specs.Parse.{textToName};
+ghost use Rattle.ods1.specs.Names.{ofWords, namedWords, writtenWords};
+
+// The five words of a text `NAME.TYP;V`.
+#[no_mangle]
+pub extern "C" fn ods1_text_to_name(text: &[u8], answer: &mut [u64; 12])
+    ensures { λ _. ⌜ now (answer .exit) ≡ namedWords (textToName (now (text .entry))) ⌝ }
+{
+    let named = text_to_name(text);
+    match named {
+        Named::Done(n) => {
+            let a = n.name1;
+            let b = n.name2;
+            let c = n.name3;
+            let t = n.typ;
+            let v = n.version;
+            put_done(
+                answer,
+                [
+                    a as u64,
+                    b as u64,
+                    c as u64,
+                    t as u64,
+                    v as u64,
+                    0,
+                    0,
+                    0,
+                    0,
+                    0,
+                ],
+            );
+        }
+        Named::Refused(r) => {
+            put_refused(answer, r);
+        }
+    }
+}
+
+// The text of five words, into a buffer of at least 19 bytes, and its length.
+#[no_mangle]
+pub extern "C" fn ods1_name_to_text(
+    name1: u16,
+    name2: u16,
+    name3: u16,
+    typ: u16,
+    version: u16,
+    text: &mut [u8],
+    answer: &mut [u64; 12],
+)
+    ensures { λ _. ⌜ now (text .exit) ≡ textAfter (ofWords name1 name2 name3 typ version) (now (text .entry)) ⌝ }
+    ensures { λ _. ⌜ now (answer .exit) ≡ writtenWords (nameToText (ofWords name1 name2 name3 typ version) (length (now (text .entry)))) ⌝ }
+{
+    let written = name_to_text(
+        Name {
+            name1,
+            name2,
+            name3,
+            typ,
+            version,
+        },
+        text,
+    );
+    match written {
+        Written::Done(n) => {
+            put_done(answer, [n as u64, 0, 0, 0, 0, 0, 0, 0, 0, 0]);
+        }
+        Written::Refused(r) => {
+            put_refused(answer, r);
+        }
+    }
+}
