@@ -1,0 +1,33 @@
+-- The worked cases that 01, "Volume V", marks P: one statement. It has the cases whose definitions exist.
+use mathlib.Core.Path.{_≡_}
+use mathlib.Core.List.{List, [], _∷_}
+use Prim.Native.Nat.{ℕ}
+use Rattle.image.specs.Stores.{zeros}
+use Rattle.image.specs.Sums.{checksum}
+use Rattle.answer.specs.declared.refusal.Refusal.the-variants as refusal
+use Rattle.radix50.specs.declared.words.Characters.the-variants.{Done, Refused}
+use Rattle.radix50.specs.Words.{charactersOf}
+use Rattle.radix50.specs.Parse.{partWord}
+
+-- The texts `READS` and `DAT`.
+unfoldable pub reads : List ℕ
+reads = 82 ∷ 69 ∷ 65 ∷ 68 ∷ 83 ∷ []
+
+unfoldable pub dat : List ℕ
+dat = 68 ∷ 65 ∷ 84 ∷ []
+
+-- A block with the words 65535 and 2, and the rest 0.
+unfoldable pub twoWords : List ℕ
+twoWords = 255 ∷ 255 ∷ 2 ∷ 0 ∷ zeros 508
+
+pub record Cases : Type 0 where
+  -- "READS is 29001, 7160, 0 (P)"
+  pub reads-is : partWord reads 0 ∷ partWord reads 1 ∷ partWord reads 2 ∷ [] ≡ 29001 ∷ 7160 ∷ 0 ∷ []
+  -- "DAT 6460 (P)"
+  pub dat-is : partWord dat 0 ≡ 6460
+  -- "63,999 is `999` (P)"
+  pub nines : charactersOf 63999 ≡ Done 57 57 57
+  -- "64,000 refused (P)"
+  pub above : charactersOf 64000 ≡ Refused refusal.Name
+  -- "words 65535, 2, rest 0 sum to 1 (P)"
+  pub sum : checksum twoWords 255 ≡ 1
