@@ -1,13 +1,13 @@
 -- Laws of stores: what each leaves as it was, and what is read back.
 use mathlib.Core.Path.{_≡_, refl, sym, ap, _∙_}
 use mathlib.Core.List.{List, [], _∷_, _++_, append-assoc}
-use Prim.Native.Nat.{ℕ, _+_, _*_, _-_, _/_, _%_, _≤_, _<_}
+use Prim.Native.Nat.{ℕ, suc, _+_, _*_, _-_, _/_, _%_, _≤_, _<_}
 use native.Mathlib.Nat.{add-zero, zero-div}
 use native.Mathlib.Numerals.{add-one}
 use native.Mathlib.Decide.{ℕ-discrete, decLt}
 use native.Mathlib.Omega.{arith}
 use lib.ListN.{length, take, drop, set, length-set, length-take, length-drop, length-append, take-append-drop, List·getD-append, List·getD-eq-default, length-replicate, getD-replicate, replicate-append-replicate}
-use lib.Seq.{length-take-le, take-at, drop-at, drop-drop, set-split, getD-set-same, getD-set-other, getD-take, getD-drop, ext-getD}
+use lib.Seq.{length-take-le, take-at, drop-at, drop-drop, set-at, set-split, take-suc, take-length, paste, getD-set-same, getD-set-other, getD-take, getD-drop, ext-getD}
 use Rattle.image.specs.Words.{byteAt, Bytes, wordAt}
 use Rattle.image.specs.Blocks.{region, block}
 use Rattle.image.specs.Sums.{checksum}
@@ -119,6 +119,20 @@ splice-length b at s h = simp (length-append, length-take, length-drop) (omega a
 pub part-splice : (b : List ℕ) (at n : ℕ) (s : List ℕ) → length s ≡ n → take at b ++ (s ++ drop n (drop at b)) ≡ splice b at s
 unfolding splice
 part-splice b at n s e = rw (← e, drop-drop)
+
+-- One byte before the run.
+pub splice-before : (b : List ℕ) (at x : ℕ) (s : List ℕ) → at < length b → set (splice b (at + 1) s) at x ≡ splice b at (x ∷ s)
+unfolding splice
+splice-before b at x s h =
+    let rest = s ++ drop (at + 1 + length s) b in
+    let front : take (at + 1) b ≡ take at b ++ (byteAt b at ∷ []) = rw (add-one at) (take-suc b at 0 h) in
+    let e : at + 1 + length s ≡ at + suc (length s) = omega arith in
+    rw (front, append-assoc (take at b)) (set-at (take at b) (byteAt b at) rest x at (length-take-le at b (omega arith)) ∙ ap (λ (n : ℕ). take at b ++ (x ∷ (s ++ drop n b))) e)
+
+-- A run that a loop writes byte by byte.
+pub paste-splice : (b : List ℕ) (at : ℕ) (s : List ℕ) → paste b at s (length s) ≡ splice b at s
+unfolding splice
+paste-splice b at s = rw (take-length s) (append-assoc (take at b) s (drop (at + length s) b))
 
 module _ (b : List ℕ) (at : ℕ) (s : List ℕ) (inside : at ≤ length b) where
   head : length (take at b) ≡ at
