@@ -15,7 +15,7 @@ use Rattle.radix50.specs.Table.{isDigit}
 use Rattle.radix50.specs.Text.{digits, decimal}
 use Rattle.radix50.specs.Parse.{valueTo, digitsTo, isVersion}
 use Rattle.radix50.proofs.TextLaws.{digits-one, digits-more, digits-most}
-use Rattle.radix50.proofs.ParseLaws.{value-more, digits-to-more}
+use Rattle.radix50.proofs.ParseLaws.{digit-in, value-more, digits-to-more}
 
 -- ---- the digits of a number
 
@@ -31,10 +31,6 @@ digits-to-append s u zero h = refl
 digits-to-append s u (suc k) h =
     ap₂ (λ (b : Bool) (x : ℕ). b && isDigit x) (digits-to-append s u k (omega arith)) (List·getD-append s u 0 k (omega arith))
 
-digit-is : (x : ℕ) → 48 ≤ x → x ≤ 57 → isDigit x ≡ true
-unfolding isDigit
-digit-is x a b = rw (le-leb 48 x a, le-leb x 57 b)
-
 -- d is a number's digits: it writes v, in digits, without leading zero.
 pub record Writes (d : List ℕ) (v : ℕ) : Type 0 where
   pub some : 1 ≤ length d
@@ -47,7 +43,7 @@ unfolding valueTo digitsTo
 writes-one v h = record {
   some = omega arith;
   value = omega arith;
-  all = digit-is (48 + v) (omega arith) (omega arith);
+  all = digit-in (48 + v) (omega arith) (omega arith);
   lead = λ a e. omega arith;
 }
 
@@ -61,7 +57,7 @@ writes-more d v x h p w =
       value = rw e (value-more l (length d) ∙ omega (arith, value-append d ((48 + x) ∷ []) (length d) (omega arith), w .value, last));
       all =
           rw (e, digits-to-more l (length d), digits-to-append d ((48 + x) ∷ []) (length d) (omega arith), w .all, last)
-          (digit-is (48 + x) (omega arith) (omega arith));
+          (digit-in (48 + x) (omega arith) (omega arith));
       lead = λ a z. w .lead p (sym (List·getD-append d ((48 + x) ∷ []) 0 0 (w .some)) ∙ z);
     }
 

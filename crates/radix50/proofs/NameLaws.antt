@@ -1,14 +1,22 @@
--- Laws of blank and filled codes, along a walk through them. Assumes nothing.
-use mathlib.Core.Path.{_≡_}
-use mathlib.Core.Bool.{true, false}
-use mathlib.Core.List.{List}
+-- Laws of blank and filled codes and of the characters that they keep, along a walk through them. Assumes nothing.
+use mathlib.Core.Path.{_≡_, refl}
+use mathlib.Core.Bool.{true, false, and-eq-true-iff}
+use mathlib.Core.List.{List, [], _∷_}
 use Prim.Native.Nat.{ℕ, _+_, _≤_, _<_}
 use native.Mathlib.Numerals.{add-one}
+use native.Mathlib.Omega.{arith}
 use borrow.Author.Tests.{eq-eqb, ne-eqb}
+use lib.Dec.{eqb}
 use lib.ListN.{length, getD, drop, drop-of-length-le}
 use lib.Seq.{drop-cons}
 use Rattle.radix50.specs.Table.{charOf, isNameChar}
 use Rattle.radix50.specs.Names.{blank, filled}
+use Rattle.radix50.specs.Text.{kept}
+
+pub blank-kept : (cs : List ℕ) → blank cs ≡ true → kept cs ≡ []
+unfolding blank kept
+blank-kept [] t = refl
+blank-kept (c ∷ cs) t = rw (and-eq-true-iff (eqb c 0) (blank cs) .0 t .0) (blank-kept cs (and-eq-true-iff (eqb c 0) (blank cs) .0 t .1))
 
 module _ (cs : List ℕ) (i : ℕ) where
   pub blank-on : i < length cs → getD cs i 0 ≡ 0 → blank (drop i cs) ≡ blank (drop (i + 1) cs)
@@ -38,3 +46,11 @@ module _ (cs : List ℕ) (i : ℕ) where
   pub filled-end : length cs ≤ i → filled (drop i cs) ≡ true
   unfolding filled
   filled-end h = rw (drop-of-length-le cs h)
+
+  pub kept-on : i < length cs → (getD cs i 0 ≡ 0 → ⊥) → length (kept (drop i cs)) ≡ 1 + length (kept (drop (i + 1) cs))
+  unfolding kept
+  kept-on h z = rw (add-one i, drop-cons cs i 0, ne-eqb (getD cs i 0) 0 z) (omega arith)
+
+  pub kept-end : length cs ≤ i → length (kept (drop i cs)) ≡ 0
+  unfolding kept
+  kept-end h = rw (drop-of-length-le cs h)

@@ -1,19 +1,20 @@
 -- Laws of the parts of a text: runs of capitals and digits, their codes, and the digits of a version. Assumes nothing.
-use mathlib.Core.Path.{_≡_, refl, ap, _∙_}
-use mathlib.Core.Bool.{true, false, _&&_}
+use mathlib.Core.Path.{_≡_, refl, sym, ap, _∙_}
+use mathlib.Core.Bool.{Bool, true, false, cond, not, _&&_, true≢false, and-true, and-false}
 use mathlib.Core.List.{List, [], _∷_, _++_}
 use Prim.Native.Nat.{ℕ, zero, suc, _+_, _*_, _-_, _^_, _≤_, _<_}
 use native.Mathlib.Nat.{pow-le-pow-right}
-use native.Mathlib.Decide.{decLt}
+use native.Mathlib.Decide.{ℕ-discrete, decLt}
 use native.Mathlib.Numerals.{add-one}
 use native.Mathlib.Omega.{arith}
-use borrow.Author.Tests.{not-false}
+use borrow.Author.Tests.{le-leb, lt-leb, not-false}
+use lib.Dec.{eqb, leb}
 use lib.ListN.{length, getD, take, length-append, List·getD-append, List·getD-eq-default}
 use lib.Seq.{length-take-le, getD-take, getD-append-seam}
 use Rattle.image.specs.Words.{byteAt}
 use Rattle.image.proofs.First.{first-has, first-is}
 use Rattle.radix50.specs.Table.{codeOf, isDigit, isNameChar}
-use Rattle.radix50.specs.Parse.{endsAt, span, Part, codeAt, valueTo, digitsTo}
+use Rattle.radix50.specs.Parse.{endsAt, span, Part, codeAt, valueTo, digitsTo, isVersion}
 use Rattle.radix50.proofs.TableLaws.{coded, blank-code}
 
 -- ---- the run at the start
@@ -75,6 +76,18 @@ module _ (p : List ℕ) (j : ℕ) where
 
 -- ---- the digits of a version
 
+pub digit-in : (x : ℕ) → 48 ≤ x → x ≤ 57 → isDigit x ≡ true
+unfolding isDigit
+digit-in x a b = rw (le-leb 48 x a, le-leb x 57 b)
+
+pub digit-low : (x : ℕ) → x < 48 → isDigit x ≡ false
+unfolding isDigit
+digit-low x h = rw (lt-leb 48 x h)
+
+pub digit-high : (x : ℕ) → 57 < x → isDigit x ≡ false
+unfolding isDigit
+digit-high x h = rw (lt-leb x 57 h, and-false)
+
 pub tens : (i : ℕ) → i ≤ 5 → 10 ^ i ≤ 100000
 tens i h = pow-le-pow-right (omega arith) h
 
@@ -94,3 +107,31 @@ module _ (d : List ℕ) where
   pub digits-to-more : (i : ℕ) → digitsTo d (i + 1) ≡ (digitsTo d i && isDigit (byteAt d i))
   unfolding digitsTo
   digits-to-more i = rw (add-one i)
+
+  pub digits-to-fails : (n i : ℕ) → i < n → isDigit (byteAt d i) ≡ false → digitsTo d n ≡ false
+  unfolding digitsTo
+  digits-to-fails zero i h f = absurd (omega arith)
+  digits-to-fails (suc n) i h f = go (ℕ-discrete i n) (λ l. digits-to-fails n i l f)
+    where
+      go : Dec (i ≡ n) → (i < n → digitsTo d n ≡ false) → (digitsTo d n && isDigit (byteAt d n)) ≡ false
+      go (yes e) rest = rw (← e, f, and-false)
+      go (no ne) rest = rw (rest (omega arith))
+
+-- The tests of a version's text, where one number stands for the digits and what they write.
+pub version-test : (d : List ℕ) → length d ≤ 5
+    → isVersion d ≡ (leb 1 (length d) && not (eqb (byteAt d 0) 48) && leb (cond (digitsTo d (length d)) (valueTo d (length d)) 100000) 32767)
+unfolding isVersion
+version-test d h = rw (le-leb (length d) 5 h, and-true) (go (digitsTo d (length d)))
+  where
+    go : (b : Bool)
+        → (leb 1 (length d) && b && not (eqb (byteAt d 0) 48) && leb (valueTo d (length d)) 32767)
+        ≡ (leb 1 (length d) && not (eqb (byteAt d 0) 48) && leb (cond b (valueTo d (length d)) 100000) 32767)
+    go true = rw and-true
+    go false = rw (and-false, and-false)
+
+pub version-value : (d : List ℕ) → leb (cond (digitsTo d (length d)) (valueTo d (length d)) 100000) 32767 ≡ true → cond (digitsTo d (length d)) (valueTo d (length d)) 100000 ≡ valueTo d (length d)
+version-value d t = go (digitsTo d (length d)) t
+  where
+    go : (b : Bool) → leb (cond b (valueTo d (length d)) 100000) 32767 ≡ true → cond b (valueTo d (length d)) 100000 ≡ valueTo d (length d)
+    go true t = refl
+    go false t = absurd (true≢false (sym t))

@@ -1,22 +1,25 @@
 -- That a part of a text and the codes of its words are the same characters. Assumes nothing.
-use mathlib.Core.Path.{_≡_, refl, sym, _∙_}
-use mathlib.Core.Bool.{Bool, true, false, cond, _&&_, true≢false, and-eq-true-iff}
+use mathlib.Core.Path.{_≡_, refl, sym, ap₂, _∙_}
+use mathlib.Core.Bool.{Bool, true, false, cond, not, _&&_, true≢false, and-false, and-eq-true-iff}
 use mathlib.Core.List.{List, [], _∷_}
 use Prim.Native.Nat.{ℕ, zero, suc, _+_, _*_, _/_, _%_, _≤_, _<_}
 use native.Mathlib.Decide.{decLt}
 use native.Mathlib.Numerals.{add-one}
 use native.Mathlib.Omega.{arith}
-use borrow.Author.Tests.{eqb-true, ne-eqb}
-use lib.Dec.{eqb}
+use borrow.Author.Tests.{eqb-true, ne-eqb, leb-true, le-leb}
+use lib.Dec.{eqb, leb}
 use lib.ListN.{length, getD, drop, drop-of-length-le}
 use lib.Seq.{drop-cons}
 use Rattle.image.specs.Words.{byteAt}
+use Rattle.answer.specs.declared.types.Name.{Name}
 use Rattle.radix50.specs.Table.{charOf, codeOf, isNameChar}
 use Rattle.radix50.specs.Words.{wordOf, codes}
-use Rattle.radix50.specs.Names.{blank, filled}
+use Rattle.radix50.specs.Names.{blank, filled, nameCodes, proper}
 use Rattle.radix50.specs.Text.{kept}
 use Rattle.radix50.specs.Parse.{Part, codeAt, partWord}
 use Rattle.radix50.proofs.TableLaws.{coded, name-code, blank-code}
+use Rattle.radix50.proofs.NameLaws.{blank-kept}
+use Rattle.radix50.proofs.TextLaws.{kept-most}
 use Rattle.radix50.proofs.ParseLaws.{code-in, code-past, code-small}
 
 -- ---- from codes to the part that they keep
@@ -26,11 +29,6 @@ unfolding blank
 blank-at [] j t = refl
 blank-at (c ∷ cs) zero t = eqb-true c 0 (and-eq-true-iff (eqb c 0) (blank cs) .0 t .0)
 blank-at (c ∷ cs) (suc j) t = blank-at cs j (and-eq-true-iff (eqb c 0) (blank cs) .0 t .1)
-
-blank-kept : (cs : List ℕ) → blank cs ≡ true → kept cs ≡ []
-unfolding blank kept
-blank-kept [] t = refl
-blank-kept (c ∷ cs) t = rw (and-eq-true-iff (eqb c 0) (blank cs) .0 t .0) (blank-kept cs (and-eq-true-iff (eqb c 0) (blank cs) .0 t .1))
 
 -- What is known of the characters that filled codes keep.
 pub record Keeps (cs : List ℕ) : Type 0 where
@@ -74,6 +72,65 @@ filled-keeps (c ∷ cs) t = go (eqb c 0) refl t (filled-keeps cs)
     go : (b : Bool) → eqb c 0 ≡ b → cond b (blank cs) (isNameChar (charOf c) && filled cs) ≡ true → (filled cs ≡ true → Keeps cs) → Keeps (c ∷ cs)
     go true e t rest = none (c ∷ cs) (rw e t)
     go false e t rest = more c cs e (and-eq-true-iff (isNameChar (charOf c)) (filled cs) .0 t .0) (rest (and-eq-true-iff (isNameChar (charOf c)) (filled cs) .0 t .1))
+
+-- The characters that filled codes keep are those of their first codes.
+pub kept-char : (cs : List ℕ) → filled cs ≡ true → (j : ℕ) → j < length (kept cs) → (getD cs j 0 < 40) × (charOf (getD cs j 0) ≡ byteAt (kept cs) j)
+kept-char cs t j h =
+    let k = filled-keeps cs t in
+    let x = coded (byteAt (kept cs) j) (k .part .each j h) in
+    rw (← k .code j, code-in (kept cs) j h) (x .small, x .back)
+
+pub codes-length : (w : ℕ) → length (codes w) ≡ 3
+unfolding codes
+codes-length w = refl
+
+pub nameCodes-length : (n : Name) → length (nameCodes n) ≡ 9
+unfolding nameCodes codes
+nameCodes-length n = refl
+
+-- The tests of a part, by the number of its characters, or 10.
+pub name-test : (cs : List ℕ) → length cs ≤ 9
+    → (not (blank cs) && filled cs) ≡ (leb 1 (cond (filled cs) (length (kept cs)) 10) && leb (cond (filled cs) (length (kept cs)) 10) 9)
+name-test cs h = go (filled cs) refl (blank cs) refl
+  where
+    go : (f : Bool) → filled cs ≡ f → (b : Bool) → blank cs ≡ b → (not b && f) ≡ (leb 1 (cond f (length (kept cs)) 10) && leb (cond f (length (kept cs)) 10) 9)
+    go true t true e = rw (blank-kept cs e)
+    go true t false e = rw (le-leb 1 (length (kept cs)) (filled-keeps cs t .some e), le-leb (length (kept cs)) 9 (omega (arith, kept-most cs)))
+    go false t b e = and-false (not b)
+
+pub type-test : (cs : List ℕ) → length cs ≤ 3 → filled cs ≡ leb (cond (filled cs) (length (kept cs)) 10) 3
+type-test cs h = go (filled cs)
+  where
+    go : (f : Bool) → f ≡ leb (cond f (length (kept cs)) 10) 3
+    go true = sym (le-leb (length (kept cs)) 3 (omega (arith, kept-most cs)))
+    go false = refl
+
+-- How many characters a part has; 10 where it is not filled.
+abbrev pub partLength : List ℕ → ℕ
+partLength cs = cond (filled cs) (length (kept cs)) 10
+
+pub proper-parts : (n : Name)
+    → proper n ≡ (leb 1 (partLength (nameCodes n)) && leb (partLength (nameCodes n)) 9 && leb (partLength (codes (n .typ))) 3 && leb 1 (n .version) && leb (n .version) 32767)
+unfolding proper
+proper-parts n =
+    ap₂ (λ (a t : Bool). a && t && leb 1 (n .version) && leb (n .version) 32767)
+    (name-test (nameCodes n) (omega (arith, nameCodes-length n)))
+    (type-test (codes (n .typ)) (omega (arith, codes-length (n .typ))))
+
+-- What the tests say of the numbers of characters.
+pub parts-known : (l s v : ℕ) → (leb 1 l && leb l 9 && leb s 3 && leb 1 v && leb v 32767) ≡ true → (l ≤ 9) × (s ≤ 3)
+parts-known l s v t =
+    let t₄ = and-eq-true-iff (leb 1 l && leb l 9 && leb s 3 && leb 1 v) (leb v 32767) .0 t .0 in
+    let t₃ = and-eq-true-iff (leb 1 l && leb l 9 && leb s 3) (leb 1 v) .0 t₄ .0 in
+    let t₂ = and-eq-true-iff (leb 1 l && leb l 9) (leb s 3) .0 t₃ in
+    (leb-true l 9 (and-eq-true-iff (leb 1 l) (leb l 9) .0 (t₂ .0) .1), leb-true s 3 (t₂ .1))
+
+pub part-known : (cs : List ℕ) (k : ℕ) → k ≡ partLength cs → k ≤ 9 → (filled cs ≡ true) × (k ≡ length (kept cs))
+part-known cs k e h = go (filled cs) e
+  where
+    go : (f : Bool) → k ≡ cond f (length (kept cs)) 10 → (f ≡ true) × (k ≡ length (kept cs))
+    go true e = (refl, e)
+    go false e = absurd (omega arith)
 
 -- ---- from a part to the codes of its words
 

@@ -18,7 +18,7 @@ use Rattle.radix50.specs.declared.parse.Named.the-variants.{Done, Refuse
 use Rattle.radix50.specs.Table.{isNameChar, isDigit}
 use Rattle.radix50.specs.Words.{codes}
 use Rattle.radix50.specs.Names.{blank, filled, nameCodes, proper}
-use Rattle.radix50.specs.Text.{kept, decimal, nameText}
+use Rattle.radix50.specs.Text.{kept, decimal, textOf, nameText}
 use Rattle.radix50.specs.Parse.{span, Part, partWord, valueTo, isVersion, nameOf, withVersion, withType, textToName}
 use Rattle.radix50.specs.RoundTrip.{Accepted, RoundTrip}
 use Rattle.radix50.proofs.TableLaws.{code-char}
@@ -117,7 +117,7 @@ unfolding codes
 long-type w = kept-most (codes w)
 
 back : (n : Name) → proper n ≡ true → textToName (nameText n) ≡ Done n
-unfolding nameText
+unfolding nameText textOf
 back n t =
     let r = proper-is n t in
     let p = kept (nameCodes n) in
@@ -166,7 +166,7 @@ accepted-proper p y d part typ some v =
     )
 
 accepted-text : (p y d : List ℕ) → Part p → Part y → length p ≤ 9 → length y ≤ 3 → Version d → nameText (nameOf p y d) ≡ p ++ (46 ∷ (y ++ (59 ∷ d)))
-unfolding nameText nameOf
+unfolding nameText textOf nameOf
 accepted-text p y d part typ few small v =
     rw (name-codes p y d part, kept-from p part 0 9 few, type-codes y typ, kept-from y typ 0 3 small, v .same)
 

@@ -1,6 +1,6 @@
 -- Laws of the character table, each by one test that is computed over the whole table. Assumes nothing.
 use mathlib.Core.Path.{_≡_, refl, sym, ap, _∙_}
-use mathlib.Core.Bool.{Bool, true, false, cond, not, _&&_, _||_, false≢true, and-false, and-eq-true-iff}
+use mathlib.Core.Bool.{Bool, true, false, cond, not, _&&_, _||_, false≢true, Bool·beq, and-false, and-eq-true-iff}
 use mathlib.Core.List.{List, [], _∷_}
 use Prim.Native.Nat.{ℕ, _-_, _≤_, _<_}
 use native.Mathlib.Decide.{decLt}
@@ -30,17 +30,32 @@ char-past c h = rw (ne-eqb c 0 (omega arith), lt-leb c 26 (omega arith), ne-eqb 
 -- The code of a character by the ranges that it may lie in.
 unfoldable pub byRange : ℕ → ℕ
 byRange x =
-    cond (eqb x 32) 0
+    cond (leb 65 x) (cond (leb x 90) (x - 64) 40)
+    (cond (leb 48 x) (cond (leb x 57) (x - 18) 40)
+    (cond (eqb x 32) 0
     (cond (eqb x 36) 27
-    (cond (eqb x 46) 28
-    (cond (ltb x 48) 40
-    (cond (leb x 57) (x - 18)
-    (cond (ltb x 65) 40
-    (cond (leb x 90) (x - 64) 40))))))
+    (cond (eqb x 46) 28 40))))
 
 pub code-by-range : (x : ℕ) → x < 256 → byRange x ≡ codeOf x
 unfolding byRange codeOf first hasChar charOf
 code-by-range x h = eqb-true (byRange x) (codeOf x) (below-at 256 (λ x. eqb (byRange x) (codeOf x)) refl x h)
+
+-- The codes of capitals and digits by their ranges.
+unfoldable pub nameRange : ℕ → Bool
+nameRange c = (leb 1 c && leb c 26) || (leb 30 c && leb c 39)
+
+sameTest : ℕ → Bool
+sameTest c = Bool·beq (nameRange c) (isNameChar (charOf c))
+
+beq-true : (a b : Bool) → Bool·beq a b ≡ true → a ≡ b
+beq-true true true t = refl
+beq-true true false t = absurd (false≢true t)
+beq-true false true t = absurd (false≢true t)
+beq-true false false t = refl
+
+pub name-by-range : (c : ℕ) → c < 256 → nameRange c ≡ isNameChar (charOf c)
+unfolding nameRange sameTest charOf isNameChar isDigit
+name-by-range c h = beq-true (nameRange c) (isNameChar (charOf c)) (below-at 256 sameTest refl c h)
 
 -- The inverse, over the whole table: the code of a code's character is that code, and the code that is nothing has none.
 pub code-char : (c : ℕ) → c < 40 → codeOf (charOf c) ≡ cond (eqb c nothing) 40 c

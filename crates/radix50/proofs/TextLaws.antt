@@ -5,19 +5,18 @@ use mathlib.Core.List.{List, [], _∷_, _++_}
 use Prim.Native.Nat.{ℕ, zero, suc, _+_, _/_, _%_, _^_, _≤_, _<_}
 use native.Mathlib.Nat.{pow-suc}
 use native.Mathlib.Decide.{decLt}
-use native.Mathlib.Numerals.{add-one}
 use native.Mathlib.Omega.{arith}
-use borrow.Author.Tests.{eq-eqb, ne-eqb, lt-ltb, le-ltb}
+use borrow.Author.Tests.{lt-ltb, le-ltb}
 use lib.Dec.{eqb, ltb}
 use lib.ListN.{length, getD, take, length-append}
-use lib.Seq.{take-suc}
+use lib.Seq.{take-at, take-take, getD-at, getD-take, length-take-le}
 use Rattle.image.specs.Stores.{splice}
 use Rattle.image.proofs.StoreLaws.{splice-none, splice-splice}
 use Rattle.answer.specs.declared.types.Name.{Name}
 use Rattle.radix50.specs.Table.{charOf}
 use Rattle.radix50.specs.Words.{codes}
 use Rattle.radix50.specs.Names.{nameCodes}
-use Rattle.radix50.specs.Text.{kept, digits, decimal, nameText}
+use Rattle.radix50.specs.Text.{kept, digits, decimal, textOf, nameText}
 
 -- ---- what is written behind what was written
 
@@ -41,15 +40,6 @@ wrote-on {b} {s} u w e f = record {
 
 -- ---- the characters of codes
 
-pub kept-append : (xs ys : List ℕ) → kept (xs ++ ys) ≡ kept xs ++ kept ys
-unfolding kept
-kept-append [] ys = refl
-kept-append (c ∷ xs) ys = go (eqb c 0) (kept-append xs ys)
-  where
-    go : (b : Bool) → kept (xs ++ ys) ≡ kept xs ++ kept ys → cond b (kept (xs ++ ys)) (charOf c ∷ kept (xs ++ ys)) ≡ cond b (kept xs) (charOf c ∷ kept xs) ++ kept ys
-    go true e = e
-    go false e = ap (λ (l : List ℕ). charOf c ∷ l) e
-
 pub kept-most : (xs : List ℕ) → length (kept xs) ≤ length xs
 unfolding kept
 kept-most [] = omega arith
@@ -58,22 +48,6 @@ kept-most (c ∷ xs) = go (eqb c 0) (kept-most xs)
     go : (b : Bool) → length (kept xs) ≤ length xs → length (cond b (kept xs) (charOf c ∷ kept xs)) ≤ suc (length xs)
     go true h = omega arith
     go false h = omega arith
-
-pub kept-none : kept [] ≡ []
-unfolding kept
-kept-none = refl
-
-pub kept-blank : (c : ℕ) → c ≡ 0 → kept (c ∷ []) ≡ []
-unfolding kept
-kept-blank c e = rw (eq-eqb c 0 e)
-
-pub kept-one : (c : ℕ) → (c ≡ 0 → ⊥) → kept (c ∷ []) ≡ charOf c ∷ []
-unfolding kept
-kept-one c ne = rw (ne-eqb c 0 ne)
-
--- One code more.
-pub kept-more : (cs : List ℕ) (i : ℕ) → i < length cs → kept (take (i + 1) cs) ≡ kept (take i cs) ++ kept (getD cs i 0 ∷ [])
-kept-more cs i h = rw (add-one i, take-suc cs i 0 h, kept-append)
 
 -- ---- decimal digits
 
@@ -120,13 +94,44 @@ pub decimal-most : (v : ℕ) → length (decimal v) ≤ 5
 unfolding decimal
 decimal-most v = digits-most 5 v
 
-pub decimal-few : (v : ℕ) → v < 10000 → length (decimal v) ≤ 4
-unfolding decimal
-decimal-few v h = rw (digits-room 3 v h) (digits-most 4 v)
+pub decimal-length-one : (v : ℕ) → v < 10 → length (decimal v) ≡ 1
+decimal-length-one v h = ap length (decimal-one v h)
+
+pub decimal-length-more : (v : ℕ) → 10 ≤ v → v < 100000 → length (decimal v) ≡ 1 + length (decimal (v / 10))
+decimal-length-more v h l = ap length (decimal-more v h l) ∙ length-append (decimal (v / 10)) ((48 + v % 10) ∷ []) ∙ omega arith
+
+-- The last of the first j + 1 digits, and what is left of the number once it is written.
+pub record Last (d : List ℕ) (v j : ℕ) : Type 0 where
+  pub digit : getD d j 0 ≡ 48 + v % 10
+  pub rest : 0 < j → decimal (v / 10) ≡ take j d
+
+pub decimal-last : (d : List ℕ) (v j : ℕ) → v < 100000 → j < length d → decimal v ≡ take (j + 1) d → Last d v j
+decimal-last d v j small h e = go (decLt v 10)
+  where
+    long : length (decimal v) ≡ j + 1
+    long = ap length e ∙ length-take-le (j + 1) d (omega arith)
+
+    at : getD (decimal v) j 0 ≡ getD d j 0
+    at = ap (λ (l : List ℕ). getD l j 0) e ∙ getD-take (j + 1) d j 0 (omega arith)
+
+    go : Dec (v < 10) → Last d v j
+    go (yes l) =
+        let z : j ≡ 0 = omega (arith, long, decimal-length-one v l) in
+        let w : v % 10 ≡ v = omega arith in
+        record { digit = sym at ∙ rw (z, decimal-one v l, w); rest = λ p. absurd (omega arith) }
+    go (no l) =
+        let n : length (decimal (v / 10)) ≡ j = omega (arith, long, decimal-length-more v (omega arith) small) in
+        record {
+          digit = sym at ∙ rw (decimal-more v (omega arith) small) (getD-at (decimal (v / 10)) (48 + v % 10) [] 0 j n);
+          rest = λ p.
+              sym (take-at (decimal (v / 10)) ((48 + v % 10) ∷ []) j n)
+              ∙ ap (take j) (sym (decimal-more v (omega arith) small) ∙ e)
+              ∙ take-take j (j + 1) d (omega arith);
+        }
 
 -- ---- the whole text
 
 pub name-text-most : (n : Name) → length (nameText n) ≤ 19
-unfolding nameText nameCodes codes
+unfolding nameText textOf nameCodes codes
 name-text-most n =
     simp length-append (omega (arith, kept-most (nameCodes n), kept-most (codes (n .typ)), decimal-most (n .version)))

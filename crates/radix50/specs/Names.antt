@@ -7,7 +7,7 @@ use Rattle.answer.specs.declared.types.Name.{Name}
 use Rattle.radix50.specs.Table.{charOf, isNameChar}
 use Rattle.radix50.specs.Words.{codes}
 
--- Blanks only.
+-- 01, Names and directories: "blanks only"; "code 0 is blank".
 unfoldable pub blank : List ℕ → Bool
 blank [] = true
 blank (c ∷ cs) = eqb c 0 && blank cs
@@ -17,7 +17,7 @@ unfoldable pub filled : List ℕ → Bool
 filled [] = true
 filled (c ∷ cs) = cond (eqb c 0) (blank cs) (isNameChar (charOf c) && filled cs)
 
--- The nine codes of the three name words.
+-- The nine codes of a name's "three words".
 unfoldable pub nameCodes : Name → List ℕ
 nameCodes n = codes (n .name1) ++ (codes (n .name2) ++ codes (n .name3))
 

@@ -1,5 +1,6 @@
 -- The name of a text.
 -- 01, Names and directories: "Text: `NAME.TYP;V`, the dot always there, V decimal without leading zero, nothing after it; room for 19 bytes."
+-- Of the characters, 46 is the dot, 59 the semicolon, 48 the digit 0 and 32 the blank.
 use mathlib.Core.Path.{_≡_}
 use mathlib.Core.Bool.{Bool, true, cond, not, _&&_}
 use mathlib.Core.List.{List}
@@ -15,10 +16,11 @@ use Rattle.radix50.specs.declared.parse.Named.the-variants.{Done, Refuse
 use Rattle.radix50.specs.Table.{codeOf, isDigit, isNameChar}
 use Rattle.radix50.specs.Words.{wordOf}
 
--- How many capitals and digits a text begins with.
+-- Whether the character at a place is no capital and no digit, and so ends NAME or TYP.
 unfoldable pub endsAt : List ℕ → ℕ → Bool
 endsAt t i = not (isNameChar (byteAt t i))
 
+-- How many capitals and digits a text begins with.
 unfoldable pub span : List ℕ → ℕ
 span t = first (endsAt t) 0 (length t)
 
@@ -26,11 +28,11 @@ span t = first (endsAt t) 0 (length t)
 pub record Part (p : List ℕ) : Type 0 where
   pub each : (j : ℕ) → j < length p → isNameChar (byteAt p j) ≡ true
 
--- The code of character j of a part; past the part's end there are blanks.
+-- The code of character j of a part. Past the part's end there are "blanks only".
 unfoldable pub codeAt : List ℕ → ℕ → ℕ
 codeAt p j = codeOf (getD p j 32)
 
--- Word i of a part, from 0.
+-- Word i of a part, from 0: of the "three words" of a name, or the "type word".
 unfoldable pub partWord : List ℕ → ℕ → ℕ
 partWord p i = wordOf (codeAt p (3 * i)) (codeAt p (3 * i + 1)) (codeAt p (3 * i + 2))
 
@@ -39,11 +41,12 @@ unfoldable pub valueTo : List ℕ → ℕ → ℕ
 valueTo d zero = 0
 valueTo d (suc k) = 10 * valueTo d k + (byteAt d k - 48)
 
+-- Whether the first k characters of a text are digits.
 unfoldable pub digitsTo : List ℕ → ℕ → Bool
 digitsTo d zero = true
 digitsTo d (suc k) = digitsTo d k && isDigit (byteAt d k)
 
--- A version's text: one to five digits, the first not 0, and at most 32,767.
+-- V: "decimal without leading zero, nothing after it", and "version 1 to 32,767", which has one to five digits.
 unfoldable pub isVersion : List ℕ → Bool
 isVersion d =
     leb 1 (length d) && leb (length d) 5 && digitsTo d (length d) && not (eqb (byteAt d 0) 48) && leb (valueTo d (length d)) 32767
@@ -69,7 +72,8 @@ withType p s =
     (withVersion p (take (span s) s) (drop (span s + 1) s))
     (Refused refusal.Name)
 
--- The answer of the call from text to words: one to nine capitals or digits, then a dot. 01, Answer numbers: NAME, "not proper, text or words".
+-- The answer of the call from text to words: one to nine capitals or digits, then a dot.
+-- 01, Answer numbers: NAME where "not proper, text or words".
 unfoldable pub textToName : List ℕ → Named
 textToName t =
     cond (leb 1 (span t) && leb (span t) 9 && eqb (byteAt t (span t)) 46)

@@ -18,16 +18,18 @@ charOf c =
 abbrev pub nothing : ℕ
 nothing = 29
 
--- The inverse: the code that has this character; 40 where no code has it.
+-- Whether a code has this character.
 unfoldable pub hasChar : ℕ → ℕ → Bool
 hasChar x c = eqb (charOf c) x && not (eqb c nothing)
 
+-- The inverse of the table: the code that has this character; 40, which is no code, where none has it.
 unfoldable pub codeOf : ℕ → ℕ
 codeOf x = first (hasChar x) 0 40
 
--- A digit, and "capitals or digits": the characters that a name or a type may have.
+-- 01, Names and directories: "30 to 39 are 0 to 9". A digit, as a character: 48 is `0` and 57 is `9`.
 unfoldable pub isDigit : ℕ → Bool
 isDigit x = leb 48 x && leb x 57
 
+-- 01, Names and directories: "capitals or digits", what a name or a type may have. 65 is `A` and 90 is `Z`.
 unfoldable pub isNameChar : ℕ → Bool
 isNameChar x = (leb 65 x && leb x 90) || isDigit x

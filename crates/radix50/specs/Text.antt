@@ -1,5 +1,6 @@
 -- The text of a name.
 -- 01, Names and directories: "Text: `NAME.TYP;V`, the dot always there, V decimal without leading zero, nothing after it; room for 19 bytes."
+-- Of the characters, 46 is the dot, 59 the semicolon and 48 the digit 0.
 use mathlib.Core.Bool.{cond}
 use mathlib.Core.List.{List, [], _∷_, _++_}
 use Prim.Native.Nat.{ℕ, zero, suc, _+_, _/_, _%_}
@@ -14,7 +15,7 @@ use Rattle.radix50.specs.Table.{charOf}
 use Rattle.radix50.specs.Words.{codes}
 use Rattle.radix50.specs.Names.{nameCodes, proper}
 
--- The characters of codes, without the blanks.
+-- NAME and TYP: the characters of codes, without the blanks.
 unfoldable pub kept : List ℕ → List ℕ
 kept [] = []
 kept (c ∷ cs) = cond (eqb c 0) (kept cs) (charOf c ∷ kept cs)
@@ -26,13 +27,17 @@ digits (suc k) v =
     let high = digits k (v / 10) in
     cond (ltb v 10) ((48 + v) ∷ []) (high ++ ((48 + v % 10) ∷ []))
 
--- "V decimal without leading zero": a version has at most five digits.
+-- V, "decimal without leading zero". A version, at most 32,767, has at most five digits.
 unfoldable pub decimal : ℕ → List ℕ
 decimal v = digits 5 v
 
--- The text of a name: its characters, a dot, the characters of its type, a semicolon, its version.
+-- `NAME.TYP;V`, from the codes of the name, the codes of the type, and the version.
+unfoldable pub textOf : List ℕ → List ℕ → ℕ → List ℕ
+textOf name typ version = kept name ++ (46 ∷ (kept typ ++ (59 ∷ decimal version)))
+
+-- The text of a name, from its five words.
 unfoldable pub nameText : Name → List ℕ
-nameText n = kept (nameCodes n) ++ (46 ∷ (kept (codes (n .typ)) ++ (59 ∷ decimal (n .version))))
+nameText n = textOf (nameCodes n) (codes (n .typ)) (n .version)
 
 -- The answer of the call from words to text, for a buffer of so many bytes. 01, Answer numbers: "Text calls: 28, then 14."
 unfoldable pub nameToText : Name → ℕ → Written

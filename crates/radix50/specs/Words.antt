@@ -12,10 +12,10 @@ use Rattle.radix50.specs.Table.{charOf}
 unfoldable pub wordOf : ℕ → ℕ → ℕ → ℕ
 wordOf a b c = (a * 40 + b) * 40 + c
 
--- The three codes a, b, c of a word. In a word of 64,000 or more the first is 40, which is no code.
+-- The three codes a, b, c of a word: the way back from the sentence above. In a word of 64,000 or more the first is 40, which is no code.
 unfoldable pub codes : ℕ → List ℕ
 codes w = w / 1600 ∷ w / 40 % 40 ∷ w % 40 ∷ []
 
--- The three characters of a word below 64,000; a larger one is refused.
+-- The three characters of a word. 01, Volume V: "63,999 is `999`", "64,000 refused".
 unfoldable pub charactersOf : ℕ → Characters
 charactersOf w = cond (ltb w 64000) (Done (charOf (w / 1600)) (charOf (w / 40 % 40)) (charOf (w % 40))) (Refused refusal.Name)

@@ -1,10 +1,13 @@
 // Proper names.
-use crate::table::char_of;
-use crate::table::is_name_char;
+use crate::table::is_name_code;
 use crate::words::codes_of;
 use answer::types::Name;
 ghost use mathlib.Core.Path.{_≡_};
+ghost use mathlib.Core.Bool.{cond, _&&_};
+ghost use lib.Dec.{leb};
+ghost use lib.ListN.{length};
 ghost use Rattle.radix50.specs.Names.{blank, filled, nameCodes, proper};
+ghost use Rattle.radix50.specs.Text.{kept};
 
 // The nine codes of the three name words.
 pub fn name_codes(n: Name) -> [u8; 9]
@@ -40,41 +43,50 @@ pub fn is_blank(cs: &[u8]) -> bool
     true
 }
 
-// Whether codes are capitals or digits, then blanks only.
-pub fn is_filled(cs: &[u8]) -> bool
-    ensures { λ r. ⌜ r ≡ filled (now (cs .entry)) ⌝ }
+// How many characters filled codes have; 10, which is more than a part may have, where they are not filled.
+pub fn filled_length(cs: &[u8]) -> usize
+    ensures { λ r. ⌜ r ≡ cond (filled (now (cs .entry))) (length (kept (now (cs .entry)))) 10 ⌝ }
 {
     let mut i: usize = 0;
     while i < cs.len() {
         let c = cs[i];
         if c == 0 {
-            return is_blank(&cs[i..]);
+            let rest = is_blank(&cs[i..]);
+            if rest {
+                return i;
+            }
+            return 10;
         }
-        let good = is_name_char(char_of(c));
+        let good = is_name_code(c);
         if good {
             i += 1;
         } else {
-            return false;
+            return 10;
         }
     }
-    true
+    i
 }
 
-// Whether a name is proper.
-pub fn is_proper(n: Name) -> bool
-    ensures { λ r. ⌜ r ≡ proper n ⌝ }
+// Whether a name is proper, by the lengths of its parts and its version.
+pub fn is_proper_parts(name: usize, typ: usize, version: u16) -> bool
+    ensures { λ r. ⌜ r ≡ (leb 1 name && leb name 9 && leb typ 3 && leb 1 version && leb version 32767) ⌝ }
 {
-    let version = n.version;
     if version < 1 {
         return false;
     }
     if 32767 < version {
         return false;
     }
+    (1 <= name) & (name <= 9) & (typ <= 3)
+}
+
+// Whether a name is proper.
+pub fn is_proper(n: Name) -> bool
+    ensures { λ r. ⌜ r ≡ proper n ⌝ }
+{
     let name = name_codes(n);
     let typ = codes_of(n.typ);
-    let empty = is_blank(&name);
-    let full = is_filled(&name);
-    let typ_full = is_filled(&typ);
-    !empty & full & typ_full
+    let name_length = filled_length(&name);
+    let typ_length = filled_length(&typ);
+    is_proper_parts(name_length, typ_length, n.version)
 }

@@ -1,12 +1,12 @@
 // The name of a text.
 use crate::table::code_of;
-use crate::table::is_digit;
 use crate::table::is_name_char;
 use answer::refusal::Refusal;
 use answer::types::Name;
 use image::words::byte_or_zero;
 ghost use mathlib.Core.Path.{_≡_};
-ghost use Prim.Native.Nat.{_-_, _≤_, _<_};
+ghost use mathlib.Core.Bool.{cond};
+ghost use Prim.Native.Nat.{_≤_, _<_};
 ghost use lib.ListN.{length};
 ghost use Rattle.radix50.specs.Parse.{span, Part, codeAt, partWord, valueTo, digitsTo, withVersion, withType, textToName};
 
@@ -50,38 +50,32 @@ fn part_word(p: &[u8], i: usize) -> u16
     (a * 40 + b) * 40 + c
 }
 
-// The value of a digit.
-fn digit(x: u8) -> u32
-    ensures { λ r. ⌜ r ≡ x - 48 ⌝ }
-{
-    if x < 48 { 0 } else { (x - 48) as u32 }
-}
-
-// The number that digits write.
-fn value(d: &[u8]) -> u32
+// The number that digits write; 100,000 where a character is no digit.
+fn number(d: &[u8]) -> u32
     requires { ⌜ length (now d) ≤ 5 ⌝ }
-    ensures { λ r. ⌜ r ≡ valueTo (now (d .entry)) (length (now (d .entry))) ⌝ }
+    ensures { λ r. ⌜ r ≡ cond (digitsTo (now (d .entry)) (length (now (d .entry)))) (valueTo (now (d .entry)) (length (now (d .entry)))) 100000 ⌝ }
 {
     let mut v: u32 = 0;
     let mut i: usize = 0;
     while i < d.len() {
-        v = 10 * v + digit(d[i]);
+        let x = d[i];
+        if x < b'0' {
+            return 100000;
+        }
+        if b'9' < x {
+            return 100000;
+        }
+        v = 10 * v + wide(x - 48);
         i += 1;
     }
     v
 }
 
-// Whether a text is digits only.
-fn all_digits(d: &[u8]) -> bool
-    ensures { λ r. ⌜ r ≡ digitsTo (now (d .entry)) (length (now (d .entry))) ⌝ }
+// A byte as a number.
+fn wide(x: u8) -> u32
+    ensures { λ r. ⌜ r ≡ x ⌝ }
 {
-    let mut good = true;
-    let mut i: usize = 0;
-    while i < d.len() {
-        good = good & is_digit(d[i]);
-        i += 1;
-    }
-    good
+    x as u32
 }
 
 // The name of a name part, a type part and what follows the semicolon.
@@ -93,10 +87,9 @@ fn with_version(p: &[u8], y: &[u8], d: &[u8]) -> Named
     if 5 < n {
         return Named::Refused(Refusal::Name);
     }
-    let digits = all_digits(d);
     let lead = byte_or_zero(d, 0);
-    let v = value(d);
-    if (1 <= n) & digits & (lead != b'0') & (v <= 32767) {
+    let v = number(d);
+    if (1 <= n) & (lead != b'0') & (v <= 32767) {
         let name1 = part_word(p, 0);
         let name2 = part_word(p, 1);
         let name3 = part_word(p, 2);

@@ -1,16 +1,18 @@
 // The text of a name.
-use crate::names::is_proper;
+use crate::names::filled_length;
+use crate::names::is_proper_parts;
 use crate::names::name_codes;
 use crate::table::char_of;
 use crate::words::codes_of;
 use answer::refusal::Refusal;
 use answer::types::Name;
 ghost use mathlib.Core.Path.{_≡_};
-ghost use mathlib.Core.List.{[], _∷_};
+ghost use mathlib.Core.Bool.{true};
 ghost use Prim.Native.Nat.{_+_, _≤_, _<_};
 ghost use lib.ListN.{length};
 ghost use Rattle.image.specs.Stores.{splice};
-ghost use Rattle.radix50.specs.Text.{kept, decimal, nameText, nameToText, textAfter};
+ghost use Rattle.radix50.specs.Names.{filled};
+ghost use Rattle.radix50.specs.Text.{kept, decimal, textOf, nameToText, textAfter};
 
 // The length of a text that was written, or the refusal.
 pub enum Written {
@@ -18,58 +20,78 @@ pub enum Written {
     Refused(Refusal),
 }
 
-// Writes the character of a code, unless it is a blank, and answers the place after it.
-fn put_code(text: &mut [u8], at: usize, c: u8) -> usize
-    requires { ⌜ at < length (now text) ⌝ }
-    ensures { λ r. ⌜ (r ≡ at + length (kept (c ∷ []))) × (now (text .exit) ≡ splice (now (text .entry)) at (kept (c ∷ []))) ⌝ }
+// Writes the characters of filled codes, of which there are k.
+fn put_codes(text: &mut [u8], at: usize, cs: &[u8], k: usize)
+    requires { ⌜ (filled (now cs) ≡ true) × (k ≡ length (kept (now cs))) × (at + k ≤ length (now text)) ⌝ }
+    ensures { λ _. ⌜ now (text .exit) ≡ splice (now (text .entry)) at (kept (now (cs .entry))) ⌝ }
 {
-    if c == 0 {
-        return at;
-    }
-    text[at] = char_of(c);
-    at + 1
-}
-
-// Writes the characters of codes, without the blanks, and answers the place after them.
-fn put_codes(text: &mut [u8], at: usize, cs: &[u8]) -> usize
-    requires { ⌜ at + length (now cs) ≤ length (now text) ⌝ }
-    ensures { λ r. ⌜ (r ≡ at + length (kept (now (cs .entry)))) × (now (text .exit) ≡ splice (now (text .entry)) at (kept (now (cs .entry)))) ⌝ }
-{
-    let mut to = at;
     let mut i: usize = 0;
-    while i < cs.len() {
-        to = put_code(text, to, cs[i]);
+    while i < k {
+        text[at + i] = char_of(cs[i]);
         i += 1;
     }
-    to
 }
 
-// Writes a number in decimal and answers the place after it.
-fn put_decimal(text: &mut [u8], at: usize, v: u32) -> usize
-    requires { ⌜ (at + 5 ≤ length (now text)) × (v < 100000) ⌝ }
-    ensures { λ r. ⌜ (r ≡ at + length (decimal v)) × (now (text .exit) ≡ splice (now (text .entry)) at (decimal v)) ⌝ }
+// How many decimal digits a number has.
+fn digit_count(v: u32) -> usize
+    requires { ⌜ v < 100000 ⌝ }
+    ensures { λ r. ⌜ r ≡ length (decimal v) ⌝ }
 {
     if v < 10 {
-        text[at] = 48 + v as u8;
-        return at + 1;
+        return 1;
     }
-    let last = put_decimal(text, at, v / 10);
-    text[last] = 48 + (v % 10) as u8;
-    last + 1
+    if v < 100 {
+        return 2;
+    }
+    if v < 1000 {
+        return 3;
+    }
+    if v < 10000 {
+        return 4;
+    }
+    5
 }
 
-// Writes the text of a name and answers its length.
-fn put_name(text: &mut [u8], n: Name) -> usize
-    requires { ⌜ 19 ≤ length (now text) ⌝ }
-    ensures { λ r. ⌜ (r ≡ length (nameText n)) × (now (text .exit) ≡ splice (now (text .entry)) 0 (nameText n)) ⌝ }
+// Writes a number in decimal, in its k digits, the last one first.
+fn put_decimal(text: &mut [u8], at: usize, v: u32, k: usize)
+    requires { ⌜ (v < 100000) × (k ≡ length (decimal v)) × (at + k ≤ length (now text)) ⌝ }
+    ensures { λ _. ⌜ now (text .exit) ≡ splice (now (text .entry)) at (decimal v) ⌝ }
 {
-    let name = name_codes(n);
-    let typ = codes_of(n.typ);
-    let dot = put_codes(text, 0, &name);
-    text[dot] = b'.';
-    let semicolon = put_codes(text, dot + 1, &typ);
+    let mut left = v;
+    let mut i = k;
+    while 0 < i {
+        i -= 1;
+        text[at + i] = 48 + (left % 10) as u8;
+        left = left / 10;
+    }
+}
+
+// Writes the text of a name, given by its codes and their lengths, and answers its length.
+fn put_name(
+    text: &mut [u8],
+    name: &[u8],
+    long: usize,
+    typ: &[u8],
+    short: usize,
+    version: u16,
+) -> usize
+    requires { ⌜ (19 ≤ length (now text)) × (long ≤ 9) × (short ≤ 3) ⌝ }
+    requires { ⌜ (filled (now name) ≡ true) × (long ≡ length (kept (now name))) ⌝ }
+    requires { ⌜ (filled (now typ) ≡ true) × (short ≡ length (kept (now typ))) ⌝ }
+    ensures { λ r. ⌜ r ≡ length (textOf (now (name .entry)) (now (typ .entry)) version) ⌝ }
+    ensures { λ _. ⌜ now (text .exit) ≡ splice (now (text .entry)) 0 (textOf (now (name .entry)) (now (typ .entry)) version) ⌝ }
+{
+    put_codes(text, 0, name, long);
+    text[long] = b'.';
+    let at = long + 1;
+    put_codes(text, at, typ, short);
+    let semicolon = at + short;
     text[semicolon] = b';';
-    put_decimal(text, semicolon + 1, n.version as u32)
+    let v = version as u32;
+    let k = digit_count(v);
+    let next = semicolon + 1;
+    put_decimal(text, next, v, k);
+    next + k
 }
 
 // Writes the text of a name into a buffer of at least 19 bytes; the bytes after it stay.
@@ -79,9 +101,14 @@ pub fn name_to_text(n: Name, text: &mut [u8]) -> Written
     if text.len() < 19 {
         return Written::Refused(Refusal::Room);
     }
-    let good = is_proper(n);
+    let version = n.version;
+    let name = name_codes(n);
+    let typ = codes_of(n.typ);
+    let long = filled_length(&name);
+    let short = filled_length(&typ);
+    let good = is_proper_parts(long, short, version);
     if good {
-        let len = put_name(text, n);
+        let len = put_name(text, &name, long, &typ, short, version);
         return Written::Done(len as u32);
     }
     Written::Refused(Refusal::Name)
