@@ -145,6 +145,19 @@ pub fn proper_words() -> Vec<[u16; 5]> {
     .to_vec()
 }
 
+/// All 65,536 values of each of the five words, among the other words of proper names.
+pub fn every_value_of_each_word() -> impl Iterator<Item = [u16; 5]> {
+    proper_words().into_iter().flat_map(|proper| {
+        (0..5).flat_map(move |place| {
+            (0..=u16::MAX).map(move |value| {
+                let mut words = proper;
+                words[place] = value;
+                words
+            })
+        })
+    })
+}
+
 /// Words where a rule of Radix-50 or of proper names begins or ends.
 pub fn edge_words() -> Vec<u16> {
     let mut edges = vec![

@@ -1,7 +1,7 @@
 //! `name_to_text`: words to text, the library against the model.
 
 use differential::names::{
-    compare_words, edge_words, proper_words, random_proper_words, random_word,
+    self, compare_words, edge_words, proper_words, random_proper_words, random_word,
 };
 use differential::Run;
 
@@ -13,14 +13,8 @@ const ENOUGH: usize = 24;
 fn every_value_of_each_word() {
     let test = "every_value_of_each_word";
     Run::of(module_path!(), test, 8 * 5 * 65_536, |run| {
-        for proper in proper_words() {
-            for place in 0..5 {
-                for value in 0..=u16::MAX {
-                    let mut words = proper;
-                    words[place] = value;
-                    compare_words(run, words, ENOUGH, 0x11);
-                }
-            }
+        for words in names::every_value_of_each_word() {
+            compare_words(run, words, ENOUGH, 0x11);
         }
     });
 }

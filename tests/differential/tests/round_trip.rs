@@ -1,7 +1,8 @@
 //! Texts and words there and back, through the library alone.
 
 use differential::names::{
-    edge_words, proper_words, random_proper_text, random_proper_words, random_word, show_words,
+    edge_words, every_value_of_each_word, random_proper_text, random_proper_words, random_word,
+    show_words,
 };
 use differential::run::{show_answer, show_text};
 use differential::Run;
@@ -94,14 +95,8 @@ fn versions_and_back() {
 fn every_value_and_back() {
     let test = "every_value_and_back";
     Run::of(module_path!(), test, 8 * 5 * 65_536, |run| {
-        for proper in proper_words() {
-            for place in 0..5 {
-                for value in 0..=u16::MAX {
-                    let mut words = proper;
-                    words[place] = value;
-                    words_and_back(run, words);
-                }
-            }
+        for words in every_value_of_each_word() {
+            words_and_back(run, words);
         }
     });
 }
