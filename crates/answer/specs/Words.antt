@@ -23,7 +23,7 @@ answerWords number place value =
     ∷ getD value 9 0
     ∷ []
 
--- A refusal: its number, its place and its value.
+-- A refusal. 01, Answer numbers: "An answer is a number, a place and a value."
 abbrev pub refusedWords : Refusal → List ℕ
 refusedWords r = answerWords (numberOf r) (placeOf r) (valueOf r ∷ [])
 

@@ -2,9 +2,18 @@
 use mathlib.Core.Path.{_≡_}
 use mathlib.Core.List.{List}
 use Prim.Native.Nat.{ℕ, _+_, _/_, _%_, _≤_, _<_}
+use native.Mathlib.Decide.{decLt}
 use native.Mathlib.Omega.{arith}
 use lib.ListN.{length, List·getD-eq-default}
 use Rattle.image.specs.Words.{byteAt, Bytes, wordAt}
+
+-- A byte that is not 0 lies inside the list.
+pub byte-inside : (b : List ℕ) (at x : ℕ) → byteAt b at ≡ x → 0 < x → at < length b
+byte-inside b at x e h = go (decLt at (length b))
+  where
+    go : Dec (at < length b) → at < length b
+    go (yes l) = l
+    go (no l) = absurd (omega (arith, List·getD-eq-default b 0 {n = at} (omega arith)))
 
 pub word-past : (b : List ℕ) (at : ℕ) → length b ≤ at → wordAt b at ≡ 0
 unfolding wordAt

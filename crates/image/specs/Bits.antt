@@ -3,7 +3,7 @@ use Prim.Native.Nat.{ℕ, _/_, _%_, _^_}
 use mathlib.Core.List.{List}
 use Rattle.image.specs.Words.{byteAt}
 
--- Bit k of a byte, 0 or 1; bit 0 is the lowest. (A part of the sentence below.)
+-- Bit k of a byte, 0 or 1; bit 0 is the lowest. 01, Index file: "bit j mod 8 of byte j/8".
 unfoldable pub bitOf : ℕ → ℕ → ℕ
 bitOf b k = b / 2 ^ k % 2
 

@@ -8,6 +8,6 @@ use lib.ListN.{take, drop}
 unfoldable pub region : List ℕ → ℕ → ℕ → List ℕ
 region image k q = take (512 * q) (drop (512 * k) image)
 
--- The 512 bytes of the block with LBN k.
+-- The bytes of the block with LBN k. 01, Names and directories: "A block is answered as the image's own 512 bytes".
 unfoldable pub block : List ℕ → ℕ → List ℕ
 block image k = take 512 (drop (512 * k) image)

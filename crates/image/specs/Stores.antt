@@ -17,7 +17,7 @@ splice b at s = take at b ++ (s ++ drop (at + length s) b)
 unfoldable pub zeros : ℕ → List ℕ
 zeros n = replicate n 0
 
--- A byte with its bit k made v: the old bit's weight taken away, the new one's added.
+-- A byte with its bit k made v: the old bit's weight taken away, the new one's added. 01, Index file: "bit j mod 8 of byte j/8".
 unfoldable pub withBit : ℕ → ℕ → ℕ → ℕ
 withBit b k v = b - bitOf b k * 2 ^ k + v * 2 ^ k
 

@@ -3,7 +3,7 @@ use Prim.Native.Nat.{ℕ, zero, suc, _+_, _*_, _%_}
 use mathlib.Core.List.{List}
 use Rattle.image.specs.Words.{wordAt}
 
--- The sum of the first n words of a block, not yet kept to 16 bits.
+-- 01, Checksum: "The sum of the first 255 words", here of the first n, not yet kept to 16 bits.
 unfoldable pub wordSum : List ℕ → ℕ → ℕ
 wordSum b zero = 0
 wordSum b (suc n) = wordSum b n + wordAt b (2 * n)

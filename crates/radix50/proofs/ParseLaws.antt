@@ -31,14 +31,6 @@ span-part t = record {
       rw (getD-take (span t) t j 0 l) (not-false (isNameChar (byteAt t j)) (first-has (endsAt t) 0 (length t) .before j (omega arith) l));
 }
 
--- A character that is not 0 stands inside the text.
-pub inside : (t : List ℕ) (i x : ℕ) → byteAt t i ≡ x → 0 < x → i < length t
-inside t i x e h = go (decLt i (length t))
-  where
-    go : Dec (i < length t) → i < length t
-    go (yes l) = l
-    go (no l) = absurd (omega (arith, List·getD-eq-default t 0 {n = i} (omega arith)))
-
 -- A run of capitals and digits that another character ends.
 pub span-is : (p : List ℕ) (x : ℕ) (s : List ℕ) → Part p → isNameChar x ≡ false → span (p ++ (x ∷ s)) ≡ length p
 unfolding span endsAt

@@ -88,9 +88,13 @@ pub nameCodes-length : (n : Name) → length (nameCodes n) ≡ 9
 unfolding nameCodes codes
 nameCodes-length n = refl
 
--- The tests of a part, by the number of its characters, or 10.
+-- How many characters a part has; 10 where it is not filled.
+abbrev pub partLength : List ℕ → ℕ
+partLength cs = cond (filled cs) (length (kept cs)) 10
+
+-- The tests of a part, by the number of its characters.
 pub name-test : (cs : List ℕ) → length cs ≤ 9
-    → (not (blank cs) && filled cs) ≡ (leb 1 (cond (filled cs) (length (kept cs)) 10) && leb (cond (filled cs) (length (kept cs)) 10) 9)
+    → (not (blank cs) && filled cs) ≡ (leb 1 (partLength cs) && leb (partLength cs) 9)
 name-test cs h = go (filled cs) refl (blank cs) refl
   where
     go : (f : Bool) → filled cs ≡ f → (b : Bool) → blank cs ≡ b → (not b && f) ≡ (leb 1 (cond f (length (kept cs)) 10) && leb (cond f (length (kept cs)) 10) 9)
@@ -98,16 +102,12 @@ name-test cs h = go (filled cs) refl (blank cs) refl
     go true t false e = rw (le-leb 1 (length (kept cs)) (filled-keeps cs t .some e), le-leb (length (kept cs)) 9 (omega (arith, kept-most cs)))
     go false t b e = and-false (not b)
 
-pub type-test : (cs : List ℕ) → length cs ≤ 3 → filled cs ≡ leb (cond (filled cs) (length (kept cs)) 10) 3
+pub type-test : (cs : List ℕ) → length cs ≤ 3 → filled cs ≡ leb (partLength cs) 3
 type-test cs h = go (filled cs)
   where
     go : (f : Bool) → f ≡ leb (cond f (length (kept cs)) 10) 3
     go true = sym (le-leb (length (kept cs)) 3 (omega (arith, kept-most cs)))
     go false = refl
-
--- How many characters a part has; 10 where it is not filled.
-abbrev pub partLength : List ℕ → ℕ
-partLength cs = cond (filled cs) (length (kept cs)) 10
 
 pub proper-parts : (n : Name)
     → proper n ≡ (leb 1 (partLength (nameCodes n)) && leb (partLength (nameCodes n)) 9 && leb (partLength (codes (n .typ))) 3 && leb 1 (n .version) && leb (n .version) 32767)

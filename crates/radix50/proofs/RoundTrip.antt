@@ -10,6 +10,7 @@ use lib.Dec.{eqb, leb}
 use lib.ListN.{length, getD, take, drop}
 use lib.Seq.{split-at, take-append-seam, drop-append-add, getD-append-seam, length-take-le}
 use Rattle.image.specs.Words.{byteAt}
+use Rattle.image.proofs.WordLaws.{byte-inside}
 use Rattle.answer.specs.declared.types.Name.{Name}
 use Rattle.answer.specs.declared.refusal.Refusal.{Refusal}
 use Rattle.answer.specs.declared.refusal.Refusal.the-variants as refusal
@@ -23,7 +24,7 @@ use Rattle.radix50.specs.Parse.{span, Part, partWord, valueTo, isVersion
 use Rattle.radix50.specs.RoundTrip.{Accepted, RoundTrip}
 use Rattle.radix50.proofs.TableLaws.{code-char}
 use Rattle.radix50.proofs.TextLaws.{kept-most, name-text-most}
-use Rattle.radix50.proofs.ParseLaws.{span-most, span-part, span-is, inside}
+use Rattle.radix50.proofs.ParseLaws.{span-most, span-part, span-is}
 use Rattle.radix50.proofs.DigitLaws.{Version, version-is, decimal-version, decimal-value}
 use Rattle.radix50.proofs.PartLaws.{filled-keeps, codes-word, word-codes, part-codes, codesFrom, filled-from, kept-from, some-from}
 
@@ -142,7 +143,7 @@ chosen false x r n e = let z : _≡_ {A = ℕ} 0 1 = cc in absurd (omega arith)
 -- A text is its first part, the character that ends it, and the rest.
 split : (t : List ℕ) (x : ℕ) → byteAt t (span t) ≡ x → 0 < x → take (span t) t ++ (x ∷ drop (span t + 1) t) ≡ t
 split t x e h =
-    rw (← e, add-one (span t)) (sym (split-at t (span t) 0 (inside t (span t) x e h)))
+    rw (← e, add-one (span t)) (sym (split-at t (span t) 0 (byte-inside t (span t) x e h)))
 
 name-codes : (p y d : List ℕ) → Part p → nameCodes (nameOf p y d) ≡ codesFrom p 0 9
 unfolding nameCodes nameOf codesFrom

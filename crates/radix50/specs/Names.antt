@@ -17,7 +17,7 @@ unfoldable pub filled : List ℕ → Bool
 filled [] = true
 filled (c ∷ cs) = cond (eqb c 0) (blank cs) (isNameChar (charOf c) && filled cs)
 
--- The nine codes of a name's "three words".
+-- 01, Names and directories: "three words". Their nine codes.
 unfoldable pub nameCodes : Name → List ℕ
 nameCodes n = codes (n .name1) ++ (codes (n .name2) ++ codes (n .name3))
 

@@ -13,11 +13,12 @@ use Rattle.radix50.specs.Names.{proper}
 use Rattle.radix50.specs.Text.{nameText}
 use Rattle.radix50.specs.Parse.{textToName}
 
--- An accepted text: its words are a proper name, and it is their text.
+-- 01, Names and directories: "Text: `NAME.TYP;V`" of "a proper name". What is known of an accepted text: its words are a proper name, and it is their text.
 pub record Accepted (t : List ℕ) (n : Name) : Type 0 where
   pub is-proper : proper n ≡ true
   pub is-text : nameText n ≡ t
 
+-- No sentence of 01 claims this: it says that the two halves of the section on names, words to text and text to words, are one rule.
 pub record RoundTrip : Type 0 where
   -- the character of each code has that code, and the code that is nothing has none
   pub table : (c : ℕ) → c < 40 → codeOf (charOf c) ≡ cond (eqb c nothing) 40 c

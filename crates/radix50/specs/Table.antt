@@ -14,15 +14,15 @@ charOf c =
     (cond (eqb c 28) 46
     (cond (leb 30 c && leb c 39) (c + 18) 0))))
 
--- "29 nothing": the code that has no character.
+-- 01, Names and directories: "29 nothing": the code that has no character.
 abbrev pub nothing : ℕ
 nothing = 29
 
--- Whether a code has this character.
+-- 01, Names and directories: "codes 1 to 26 are A to Z" and so on, read the other way. Whether a code has this character.
 unfoldable pub hasChar : ℕ → ℕ → Bool
 hasChar x c = eqb (charOf c) x && not (eqb c nothing)
 
--- The inverse of the table: the code that has this character; 40, which is no code, where none has it.
+-- 01, Names and directories: the same, as the inverse of the table: the code that has this character; 40, which is no code, where none has it.
 unfoldable pub codeOf : ℕ → ℕ
 codeOf x = first (hasChar x) 0 40
 

@@ -15,27 +15,27 @@ use Rattle.radix50.specs.Table.{charOf}
 use Rattle.radix50.specs.Words.{codes}
 use Rattle.radix50.specs.Names.{nameCodes, proper}
 
--- NAME and TYP: the characters of codes, without the blanks.
+-- 01, Names and directories: NAME and TYP are "capitals or digits", without the blanks of the words.
 unfoldable pub kept : List ℕ → List ℕ
 kept [] = []
 kept (c ∷ cs) = cond (eqb c 0) (kept cs) (charOf c ∷ kept cs)
 
--- The decimal digits of a number of at most k digits, without leading zero.
+-- 01, Names and directories: "decimal without leading zero". The digits of a number that has at most k.
 unfoldable pub digits : ℕ → ℕ → List ℕ
 digits zero v = []
 digits (suc k) v =
     let high = digits k (v / 10) in
     cond (ltb v 10) ((48 + v) ∷ []) (high ++ ((48 + v % 10) ∷ []))
 
--- V, "decimal without leading zero". A version, at most 32,767, has at most five digits.
+-- 01, Names and directories: "V decimal without leading zero". A version, at most 32,767, has at most five digits.
 unfoldable pub decimal : ℕ → List ℕ
 decimal v = digits 5 v
 
--- `NAME.TYP;V`, from the codes of the name, the codes of the type, and the version.
+-- 01, Names and directories: "`NAME.TYP;V`", from the codes of the name, the codes of the type, and the version.
 unfoldable pub textOf : List ℕ → List ℕ → ℕ → List ℕ
 textOf name typ version = kept name ++ (46 ∷ (kept typ ++ (59 ∷ decimal version)))
 
--- The text of a name, from its five words.
+-- 01, Names and directories: "`NAME.TYP;V`", from the five words of a name.
 unfoldable pub nameText : Name → List ℕ
 nameText n = textOf (nameCodes n) (codes (n .typ)) (n .version)
 

@@ -12,7 +12,7 @@ use Rattle.radix50.specs.Table.{charOf}
 unfoldable pub wordOf : ℕ → ℕ → ℕ → ℕ
 wordOf a b c = (a * 40 + b) * 40 + c
 
--- The three codes a, b, c of a word: the way back from the sentence above. In a word of 64,000 or more the first is 40, which is no code.
+-- 01, Names and directories: "a word is (a·40+b)·40+c", read the other way: the codes a, b, c of a word. In a word of 64,000 or more the first is 40, which is no code.
 unfoldable pub codes : ℕ → List ℕ
 codes w = w / 1600 ∷ w / 40 % 40 ∷ w % 40 ∷ []
 

@@ -9,17 +9,18 @@ use Rattle.radix50.specs.declared.words.Characters.the-variants.{Done, Refused}
 use Rattle.radix50.specs.Words.{charactersOf}
 use Rattle.radix50.specs.Parse.{partWord}
 
--- The texts `READS` and `DAT`.
+-- 01, Volume V: the texts "READS" and "DAT".
 unfoldable pub reads : List ℕ
 reads = 82 ∷ 69 ∷ 65 ∷ 68 ∷ 83 ∷ []
 
 unfoldable pub dat : List ℕ
 dat = 68 ∷ 65 ∷ 84 ∷ []
 
--- A block with the words 65535 and 2, and the rest 0.
+-- 01, Volume V: "words 65535, 2, rest 0", as a block.
 unfoldable pub twoWords : List ℕ
 twoWords = 255 ∷ 255 ∷ 2 ∷ 0 ∷ zeros 508
 
+-- 01, What would not satisfy us: "The P cases stand together under a single statement about the definitions".
 pub record Cases : Type 0 where
   -- "READS is 29001, 7160, 0 (P)"
   pub reads-is : partWord reads 0 ∷ partWord reads 1 ∷ partWord reads 2 ∷ [] ≡ 29001 ∷ 7160 ∷ 0 ∷ []

@@ -7,15 +7,16 @@ use denote.Ref.{now}
 use borrow.Author.Tests.{eq-eqb, ne-eqb, le-leb, lt-leb}
 use lib.ListN.{length, take, drop, length-drop}
 use lib.Seq.{length-take-le, take-all}
+use Rattle.image.proofs.WordLaws.{byte-inside}
 use Rattle.radix50.specs.Parse.{withType, textToName}
-use Rattle.radix50.proofs.ParseLaws.{inside, span-part}
+use Rattle.radix50.proofs.ParseLaws.{span-part}
 use Rattle.radix50.proofs.parse.text_to_name.Statement.{statement}
 use Rattle.radix50.proofs.parse.text_to_name.Tie as tie
 
 end-inside : (c : tie.Else3) → c .before .before .before .before .span .result < length (now (c .before .before .before .before .before .before .args .text))
 end-inside c =
     let b = c .before .before .before in
-    inside (now (b .before .before .before .args .text)) (b .before .span .result) 46 (sym (b .byte-or-zero .ensures) ∙ omega arith) (omega arith)
+    byte-inside (now (b .before .before .before .args .text)) (b .before .span .result) 46 (sym (b .byte-or-zero .ensures) ∙ omega arith) (omega arith)
 
 returns : tie.Need-returns
 unfolding textToName

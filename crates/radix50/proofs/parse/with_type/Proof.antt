@@ -7,15 +7,16 @@ use denote.Ref.{now}
 use borrow.Author.Tests.{eq-eqb, ne-eqb, le-leb, lt-leb}
 use lib.ListN.{length, take, drop, length-drop}
 use lib.Seq.{length-take-le, take-all}
+use Rattle.image.proofs.WordLaws.{byte-inside}
 use Rattle.radix50.specs.Parse.{withVersion, withType}
-use Rattle.radix50.proofs.ParseLaws.{inside, span-part}
+use Rattle.radix50.proofs.ParseLaws.{span-part}
 use Rattle.radix50.proofs.parse.with_type.Statement.{statement}
 use Rattle.radix50.proofs.parse.with_type.Tie as tie
 
 end-inside : (c : tie.Else2) → c .before .before .before .span .result < length (now (c .before .before .before .before .before .before .args .s))
 end-inside c =
     let b = c .before .before in
-    inside (now (b .before .before .before .before .args .s)) (b .before .span .result) 59 (sym (b .byte-or-zero .ensures) ∙ omega arith) (omega arith)
+    byte-inside (now (b .before .before .before .before .args .s)) (b .before .span .result) 59 (sym (b .byte-or-zero .ensures) ∙ omega arith) (omega arith)
 
 returns : tie.Need-returns
 unfolding withType
