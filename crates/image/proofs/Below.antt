@@ -1,16 +1,13 @@
--- A test at each number below n, and the way between its computed answer and what it says of every number.
+-- The way between a test's computed answer at all numbers below n and what it says of each of them.
 use mathlib.Core.Path.{_≡_, refl, ap, _∙_}
-use mathlib.Core.Bool.{Bool, true, _&&_, and-eq-true-iff}
+use mathlib.Core.Bool.{Bool, true, and-eq-true-iff}
 use Prim.Native.Nat.{ℕ, zero, suc, _<_}
 use native.Mathlib.Decide.{ℕ-discrete}
 use native.Mathlib.Omega.{arith}
-
--- p passes at each number below n.
-abbrev pub below : ℕ → (ℕ → Bool) → Bool
-below zero p = true
-below (suc n) p = p n && below n p
+use Rattle.image.specs.First.{below}
 
 pub below-at : (n : ℕ) (p : ℕ → Bool) → below n p ≡ true → (k : ℕ) → k < n → p k ≡ true
+unfolding below
 below-at zero p h k l = absurd (omega arith)
 below-at (suc n) p h k l = go (ℕ-discrete k n) (below-at n p (both .1) k)
   where
@@ -22,5 +19,6 @@ below-at (suc n) p h k l = go (ℕ-discrete k n) (below-at n p (both .1) k)
     go (no ne) rest = rest (omega arith)
 
 pub below-all : (n : ℕ) (p : ℕ → Bool) → ((k : ℕ) → k < n → p k ≡ true) → below n p ≡ true
+unfolding below
 below-all zero p h = refl
 below-all (suc n) p h = rw (h n (omega arith)) (below-all n p (λ k l. h k (omega arith)))

@@ -15,7 +15,8 @@ use Rattle.image.specs.Blocks.{region, block}
 use Rattle.image.specs.Bits.{bitOf, bitAt}
 use Rattle.image.specs.Stores.{withBit, putBit, putBits, numbersFrom}
 use Rattle.image.proofs.BlockLaws.{byte-region, byte-block}
-use Rattle.image.proofs.Below.{below, below-at}
+use Rattle.image.specs.First.{below}
+use Rattle.image.proofs.Below.{below-at}
 use Rattle.image.proofs.Numbers.{numbersFrom-none, numbersFrom-length, numbersFrom-at, numbersFrom-last}
 use Rattle.image.proofs.StoreLaws.{Outside, Agree, agree-refl, agree-trans, agree-weaken, bitAt-agree, putBit-agree, set-bytes}
 
@@ -32,7 +33,7 @@ test b k v i =
     leb (bitOf b k * 2 ^ k) b && (ltb (v * 2 ^ k) 256 && (ltb (withBit b k v) 256 && eqb (bitOf (withBit b k v) i) (cond (eqb i k) v (bitOf b i))))
 
 tests : below 256 (λ b. below 8 (λ k. below 2 (λ v. below 8 (λ i. test b k v i)))) ≡ true
-unfolding test
+unfolding below test
 tests = refl
 
 pub withBit-facts : (b k v i : ℕ) → b < 256 → k < 8 → v < 2 → i < 8 → WithBit b k v i

@@ -8,8 +8,8 @@ use native.Mathlib.Omega.{arith}
 use borrow.Author.Tests.{eqb-true, eqb-false, leb-true, ltb-true, not-true, ne-eqb, lt-leb}
 use lib.Dec.{eqb, leb, ltb}
 use lib.ListN.{getD}
-use Rattle.image.specs.First.{first}
-use Rattle.image.proofs.Below.{below, below-at}
+use Rattle.image.specs.First.{first, below}
+use Rattle.image.proofs.Below.{below-at}
 use Rattle.radix50.specs.Table.{charOf, nothing, hasChar, codeOf, isDigit, isNameChar}
 
 -- The forty characters, as the code's table has them.
@@ -19,7 +19,7 @@ characters =
     ∷ 84 ∷ 85 ∷ 86 ∷ 87 ∷ 88 ∷ 89 ∷ 90 ∷ 36 ∷ 46 ∷ 0 ∷ 48 ∷ 49 ∷ 50 ∷ 51 ∷ 52 ∷ 53 ∷ 54 ∷ 55 ∷ 56 ∷ 57 ∷ []
 
 pub characters-at : (c : ℕ) → c < 40 → getD characters c 0 ≡ charOf c
-unfolding characters charOf
+unfolding below characters charOf
 characters-at c h =
     eqb-true (getD characters c 0) (charOf c) (below-at 40 (λ c. eqb (getD characters c 0) (charOf c)) refl c h)
 
@@ -37,7 +37,7 @@ byRange x =
     (cond (eqb x 46) 28 40))))
 
 pub code-by-range : (x : ℕ) → x < 256 → byRange x ≡ codeOf x
-unfolding byRange codeOf first hasChar charOf
+unfolding below byRange codeOf first hasChar charOf
 code-by-range x h = eqb-true (byRange x) (codeOf x) (below-at 256 (λ x. eqb (byRange x) (codeOf x)) refl x h)
 
 -- The codes of capitals and digits by their ranges.
@@ -54,12 +54,12 @@ beq-true false true t = absurd (false≢true t)
 beq-true false false t = refl
 
 pub name-by-range : (c : ℕ) → c < 256 → nameRange c ≡ isNameChar (charOf c)
-unfolding nameRange sameTest charOf isNameChar isDigit
+unfolding below nameRange sameTest charOf isNameChar isDigit
 name-by-range c h = beq-true (nameRange c) (isNameChar (charOf c)) (below-at 256 sameTest refl c h)
 
 -- The inverse, over the whole table: the code of a code's character is that code, and the code that is nothing has none.
 pub code-char : (c : ℕ) → c < 40 → codeOf (charOf c) ≡ cond (eqb c nothing) 40 c
-unfolding codeOf first hasChar charOf
+unfolding below codeOf first hasChar charOf
 code-char c h =
     eqb-true (codeOf (charOf c)) (cond (eqb c nothing) 40 c) (below-at 40 (λ c. eqb (codeOf (charOf c)) (cond (eqb c nothing) 40 c)) refl c h)
 
@@ -73,7 +73,7 @@ codedTest : ℕ → Bool
 codedTest x = not (isNameChar x) || (ltb (codeOf x) 40 && not (eqb (codeOf x) 0) && eqb (charOf (codeOf x)) x)
 
 coded-all : below 91 codedTest ≡ true
-unfolding codedTest codeOf first hasChar charOf isNameChar isDigit
+unfolding below codedTest codeOf first hasChar charOf isNameChar isDigit
 coded-all = refl
 
 pub name-char-most : (x : ℕ) → isNameChar x ≡ true → x ≤ 90
