@@ -1,0 +1,53 @@
+-- The chain of a file's headers, and the file's blocks.
+use mathlib.Core.Bool.{Bool, true, cond, _&&_, _||_}
+use mathlib.Core.List.{List, [], _∷_, _++_}
+use Prim.Native.Nat.{ℕ, zero, suc, _+_}
+use lib.Dec.{eqb}
+use Rattle.header.specs.Fields.{hFseq, segment, mEfnu, mEfsq}
+use Rattle.header.specs.Pointers.{blocksOf}
+use Rattle.volume.specs.Volume.{header, faultOf, isNumber}
+
+-- 01, The header: "names a number in use with a slot, whole, with H.FSEQ = M.EFSQ and a segment number one higher". Header h does so by M.EFNU.
+unfoldable pub linksOn : List ℕ → List ℕ → Bool
+linksOn image h =
+    isNumber image (mEfnu h)
+    && eqb (faultOf image (mEfnu h)) 0
+    && eqb (hFseq (header image (mEfnu h))) (mEfsq h)
+    && eqb (segment (header image (mEfnu h))) (segment h + 1)
+
+-- 01, The header: "Good link from a header: M.EFNU is 0, or names a number in use ..".
+unfoldable pub goodLink : List ℕ → List ℕ → Bool
+goodLink image h = eqb (mEfnu h) 0 || linksOn image h
+
+-- The numbers of the headers that are linked by M.EFNU from that of number n on, at most f of them. hdr gives the header of a number.
+unfoldable pub chain : (ℕ → List ℕ) → ℕ → ℕ → List ℕ
+chain hdr zero n = []
+chain hdr (suc f) n =
+    let on = chain hdr f (mEfnu (hdr n)) in
+    n ∷ cond (eqb (mEfnu (hdr n)) 0) [] on
+
+-- 01, The header: "A chain thus ends within 256 headers." The numbers of a file's headers, from the first, n, on.
+unfoldable pub chainOf : List ℕ → ℕ → List ℕ
+chainOf image n = chain (header image) 256 n
+
+-- A test that each of a list of numbers passes.
+unfoldable pub every : (ℕ → Bool) → List ℕ → Bool
+every p [] = true
+every p (n ∷ ns) = p n && every p ns
+
+-- 01, Answer numbers: "12 CHAIN | a bad link". The header of number n has a good link.
+unfoldable pub linkOf : List ℕ → ℕ → Bool
+linkOf image n = goodLink image (header image n)
+
+unfoldable pub goodChain : List ℕ → ℕ → Bool
+goodChain image n = every (linkOf image) (chainOf image n)
+
+-- The LBNs of headers one after the other.
+unfoldable pub flat : (ℕ → List ℕ) → List ℕ → List ℕ
+flat hdr [] = []
+flat hdr (n ∷ ns) = blocksOf (hdr n) ++ flat hdr ns
+
+-- 01, The header: "VBNs run through its pointers in order." 01, Demand 3: "A file's blocks are the LBNs of its VBNs, from 1 to the last". The file
+-- whose first header has number n.
+unfoldable pub fileBlocks : List ℕ → ℕ → List ℕ
+fileBlocks image n = flat (header image) (chainOf image n)

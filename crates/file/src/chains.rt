@@ -1,0 +1,1 @@
+// The chain of a file's headers.

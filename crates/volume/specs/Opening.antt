@@ -1,0 +1,92 @@
+-- Opening a volume: SIZE, HOME, GEOMETRY, INDEX, STORAGE, in this order.
+use mathlib.Core.Path.{_≡_}
+use mathlib.Core.Bool.{Bool, cond, _&&_, _||_}
+use mathlib.Core.List.{List}
+use Prim.Native.Nat.{ℕ, _+_, _*_, _-_, _/_}
+use lib.Dec.{eqb, leb, ltb}
+use lib.ListN.{length, getD}
+use Rattle.image.specs.Words.{byteAt}
+use Rattle.image.specs.Blocks.{block}
+use Rattle.image.specs.First.{below}
+use Rattle.answer.specs.declared.refusal.Refusal.the-variants as refusal
+use Rattle.answer.specs.declared.outcome.Outcome.{Outcome}
+use Rattle.answer.specs.declared.outcome.Outcome.the-variants as outcome
+use Rattle.answer.specs.Outcome.{unless, _then_}
+use Rattle.header.specs.Fields.{hFseq, segment, mEfnu}
+use Rattle.header.specs.Pointers.{pointerCount, pointersAt, pointers, blocksOf}
+use Rattle.header.specs.Whole.{fault}
+use Rattle.volume.specs.Home.{blocks, positions, homeIndex, home}
+use Rattle.volume.specs.Volume.{ibsz, iblb, fmax, indexHeader, index, header, mapBlocks, volumeOf}
+use Rattle.volume.specs.declared.volume.Volume.{Volume}
+use Rattle.volume.specs.declared.opening.Opened.{Opened}
+use Rattle.volume.specs.declared.opening.Opened.the-variants.{Done, Refused}
+
+-- 01, The work and its edge: "a lent image of 512·N bytes, N from 100 to 1,044,480, else SIZE".
+unfoldable pub sized : List ℕ → Bool
+sized image = eqb (length image) (512 * blocks image) && leb 100 (blocks image) && leb (blocks image) 1044480
+
+-- 01, Home block: one of the positions has it.
+unfoldable pub homed : List ℕ → Bool
+homed image = ltb (homeIndex image) (positions (blocks image))
+
+-- 01, Geometry: "m = H.IBSZ = H.FMAX/4096 rounded up".
+unfoldable pub indexMapBlocks : ℕ → ℕ
+indexMapBlocks n = (n + 4095) / 4096
+
+-- 01, Geometry: "H.FMAX at least 16; m = H.IBSZ = H.FMAX/4096 rounded up; H.IBLB + m + 16 ≤ N."
+unfoldable pub geometry : List ℕ → Bool
+geometry image = leb 16 (fmax image) && eqb (ibsz image) (indexMapBlocks (fmax image)) && leb (iblb image + ibsz image + 16) (blocks image)
+
+-- 01, Index file and Storage map file: "whole, ID 1,1, segment 0, without extension"; "whole, ID 2,2, segment 0, no extension". Header h is so
+-- for number n.
+unfoldable pub alone : ℕ → ℕ → List ℕ → Bool
+alone blocks n h = eqb (fault blocks n h) 0 && eqb (hFseq h) n && eqb (segment h) 0 && eqb (mEfnu h) 0
+
+-- 01, Index file: "Its VBN 1 maps to LBN 0, VBN 2 to the home, VBN 3 to m+18 to H.IBLB onward." The LBN of block i, from 0.
+unfoldable pub indexLbn : ℕ → ℕ → ℕ → ℕ
+indexLbn home iblb i = cond (eqb i 0) 0 (cond (eqb i 1) home (iblb + (i - 2)))
+
+-- Block i, from 0, of a list of LBNs is the index file's.
+unfoldable pub indexAt : ℕ → ℕ → List ℕ → ℕ → Bool
+indexAt home iblb lbns i = eqb (getD lbns i 0) (indexLbn home iblb i)
+
+-- 01, Index file: what the list of its LBNs must begin with, VBN 1 to m+18.
+unfoldable pub indexMapped : ℕ → ℕ → ℕ → List ℕ → Bool
+indexMapped home iblb m lbns = leb (m + 18) (length lbns) && below (m + 18) (indexAt home iblb lbns)
+
+-- 01, Index file: "It must be whole, ID 1,1, segment 0, without extension (house). Its VBN 1 maps to .."
+unfoldable pub indexed : List ℕ → Bool
+indexed image = alone (blocks image) 1 (indexHeader image) && indexMapped (home image) (iblb image) (ibsz image) (index image)
+
+-- 01, Storage map file: "maps exactly 1+q blocks, .. by one pointer, or by two of which the first maps one block".
+unfoldable pub storageMapped : ℕ → List ℕ → Bool
+storageMapped q h = eqb (length (blocksOf h)) (1 + q) && (eqb (pointers h) 1 || (eqb (pointers h) 2 && eqb (pointerCount h (pointersAt h)) 1))
+
+-- 01, Storage map file: "Header 2, whole, ID 2,2, segment 0, no extension, maps exactly 1+q blocks, .. Byte 3 of its first block is q".
+unfoldable pub stored : List ℕ → Bool
+stored image =
+    alone (blocks image) 2 (header image 2)
+    && storageMapped (mapBlocks (blocks image)) (header image 2)
+    && eqb (byteAt (block image (getD (blocksOf (header image 2)) 0 0)) 3) (mapBlocks (blocks image))
+
+-- 01, Answer numbers: "1 SIZE, 2 HOME, 3 GEOMETRY, 4 INDEX, 5 STORAGE | opening, in this order".
+unfoldable pub openVolume : List ℕ → Outcome
+openVolume image =
+    unless (sized image) refusal.Size
+    then unless (homed image) refusal.Home
+    then unless (geometry image) refusal.Geometry
+    then unless (indexed image) refusal.Index
+    then unless (stored image) refusal.Storage
+
+-- 01, Answer numbers: DONE has as value "the home LBN (open volume)".
+unfoldable pub openedVolume : Outcome → ℕ → Opened
+openedVolume outcome.Passed home = Done (record { 0 = home })
+openedVolume (outcome.Refused r) home = Refused r
+
+-- The answer of opening a volume.
+unfoldable pub volumeAnswer : List ℕ → Opened
+volumeAnswer image = openedVolume (openVolume image) (home image)
+
+-- The image opens, and v is what calls on it need to know.
+abbrev pub Open : List ℕ → Volume → Type 0
+Open image v = (openVolume image ≡ outcome.Passed) × (v ≡ volumeOf image)
