@@ -1,0 +1,137 @@
+-- What an image that opens is known to have.
+use mathlib.Core.Path.{_≡_, refl, sym, ap, _∙_}
+use mathlib.Core.Bool.{Bool, true, false, _&&_, _||_, and-eq-true-iff}
+use mathlib.Core.List.{List}
+use Prim.Native.Nat.{ℕ, _+_, _*_, _-_, _≤_, _<_}
+use native.Mathlib.Omega.{arith}
+use borrow.Author.Tests.{eqb-true, leb-true, ltb-true}
+use lib.Dec.{eqb, leb, ltb}
+use lib.ListN.{length, getD}
+use Rattle.image.specs.Words.{byteAt, Bytes}
+use Rattle.image.specs.Blocks.{region, block}
+use Rattle.image.specs.First.{below}
+use Rattle.image.proofs.Below.{below-at}
+use Rattle.image.proofs.WordLaws.{word-below}
+use Rattle.image.proofs.BlockLaws.{region-length, block-length, block-bytes}
+use Rattle.answer.specs.declared.refusal.Refusal.the-variants as refusal
+use Rattle.answer.specs.declared.outcome.Outcome.the-variants.{Passed}
+use Rattle.answer.specs.Outcome.{unless, _then_}
+use Rattle.header.specs.Fields.{hFseq, segment, mEfnu}
+use Rattle.header.specs.Pointers.{pointerCount, pointersAt, pointers, blocksOf}
+use Rattle.header.specs.Whole.{fault}
+use Rattle.volume.specs.Home.{hFmax, blocks, positions, homeIndex, home}
+use Rattle.volume.specs.Volume.{ibsz, iblb, fmax, indexHeader, index, slot, slots, header, indexMap, mapBlocks, base, storageMap}
+use Rattle.volume.specs.Opening.{sized, homed, indexMapBlocks, geometry, alone, indexLbn, indexAt, indexMapped, indexed, storageMapped, stored, openVolume}
+use Rattle.volume.proofs.HomeLaws.{position-below}
+use Rattle.volume.proofs.OpeningLaws.{passed-first, passed-last, indexLbn-boot, indexLbn-home, indexLbn-row}
+
+-- A header that stands alone: whole, of its number and sequence, segment 0, without extension.
+pub record Alone (total n : ℕ) (h : List ℕ) : Type 0 where
+  pub whole : fault total n h ≡ 0
+  pub sequence : hFseq h ≡ n
+  pub first : segment h ≡ 0
+  pub last : mEfnu h ≡ 0
+
+-- The LBNs that the index file begins with.
+pub record Index (home iblb m : ℕ) (lbns : List ℕ) : Type 0 where
+  pub long : m + 18 ≤ length lbns
+  pub boot : getD lbns 0 0 ≡ 0
+  pub homed : getD lbns 1 0 ≡ home
+  pub row : (i : ℕ) → i < m + 16 → getD lbns (2 + i) 0 ≡ iblb + i
+
+-- The image opens.
+pub record Opens (image : List ℕ) : Type 0 where
+  pub size : length image ≡ 512 * blocks image
+  pub least : 100 ≤ blocks image
+  pub most : blocks image ≤ 1044480
+  pub found : homeIndex image < positions (blocks image)
+  pub enough : 16 ≤ fmax image
+  pub maps : ibsz image ≡ indexMapBlocks (fmax image)
+  pub fits : iblb image + ibsz image + 16 ≤ blocks image
+  pub index-header : Alone (blocks image) 1 (indexHeader image)
+  pub index-file : Index (home image) (iblb image) (ibsz image) (index image)
+  pub storage-header : Alone (blocks image) 2 (header image 2)
+  pub shape : storageMapped (mapBlocks (blocks image)) (header image 2) ≡ true
+  pub control : byteAt (block image (getD (blocksOf (header image 2)) 0 0)) 3 ≡ mapBlocks (blocks image)
+
+-- Three tests in a row, and four.
+three : (a b c : Bool) → (a && b && c) ≡ true → (a ≡ true) × (b ≡ true) × (c ≡ true)
+three a b c t =
+    let s = and-eq-true-iff (a && b) c .0 t in
+    let r = and-eq-true-iff a b .0 (s .0) in
+    (r .0, r .1, s .1)
+
+pub alone-gives : (total n : ℕ) (h : List ℕ) → alone total n h ≡ true → Alone total n h
+unfolding alone
+alone-gives total n h t =
+    let s = and-eq-true-iff (eqb (fault total n h) 0 && eqb (hFseq h) n && eqb (segment h) 0) (eqb (mEfnu h) 0) .0 t in
+    let r = three (eqb (fault total n h) 0) (eqb (hFseq h) n) (eqb (segment h) 0) (s .0) in
+    record {
+      whole = eqb-true (fault total n h) 0 (r .0);
+      sequence = eqb-true (hFseq h) n (r .1);
+      first = eqb-true (segment h) 0 (r .2);
+      last = eqb-true (mEfnu h) 0 (s .1);
+    }
+
+pub index-gives : (home iblb m : ℕ) (lbns : List ℕ) → indexMapped home iblb m lbns ≡ true → Index home iblb m lbns
+unfolding indexMapped indexAt
+index-gives home iblb m lbns t =
+    let s = and-eq-true-iff (leb (m + 18) (length lbns)) (below (m + 18) (indexAt home iblb lbns)) .0 t in
+    let at : (i : ℕ) → i < m + 18 → getD lbns i 0 ≡ indexLbn home iblb i =
+    λ i l. eqb-true (getD lbns i 0) (indexLbn home iblb i) (below-at (m + 18) (indexAt home iblb lbns) (s .1) i l) in
+    record {
+      long = leb-true (m + 18) (length lbns) (s .0);
+      boot = at 0 (omega arith) ∙ indexLbn-boot home iblb;
+      homed = at 1 (omega arith) ∙ indexLbn-home home iblb;
+      row = λ i l. at (2 + i) (omega arith) ∙ indexLbn-row home iblb (2 + i) (omega arith) ∙ omega arith;
+    }
+
+pub opens : (image : List ℕ) → openVolume image ≡ Passed → Opens image
+unfolding openVolume sized homed geometry indexed index stored
+opens image e =
+    let n = blocks image in
+    let s = passed-first (sized image) refusal.Size _ e in
+    let h = passed-first (homed image) refusal.Home _ (s .1) in
+    let g = passed-first (geometry image) refusal.Geometry _ (h .1) in
+    let i = passed-first (indexed image) refusal.Index _ (g .1) in
+    let size = three (eqb (length image) (512 * n)) (leb 100 n) (leb n 1044480) (s .0) in
+    let lay = three (leb 16 (fmax image)) (eqb (ibsz image) (indexMapBlocks (fmax image))) (leb (iblb image + ibsz image + 16) n) (g .0) in
+    let file = and-eq-true-iff (alone n 1 (indexHeader image)) (indexMapped (home image) (iblb image) (ibsz image) (blocksOf (indexHeader image))) .0 (i .0) in
+    let map = three (alone n 2 (header image 2)) (storageMapped (mapBlocks n) (header image 2)) (eqb (byteAt (block image (getD (blocksOf (header image 2)) 0 0)) 3) (mapBlocks n)) (passed-last (stored image) refusal.Storage (i .1)) in
+    record {
+      size = eqb-true (length image) (512 * n) (size .0);
+      least = leb-true 100 n (size .1);
+      most = leb-true n 1044480 (size .2);
+      found = ltb-true (homeIndex image) (positions n) (h .0);
+      enough = leb-true 16 (fmax image) (lay .0);
+      maps = eqb-true (ibsz image) (indexMapBlocks (fmax image)) (lay .1);
+      fits = leb-true (iblb image + ibsz image + 16) n (lay .2);
+      index-header = alone-gives n 1 (indexHeader image) (file .0);
+      index-file = index-gives (home image) (iblb image) (ibsz image) (blocksOf (indexHeader image)) (file .1);
+      storage-header = alone-gives n 2 (header image 2) (map .0);
+      shape = map .1;
+      control = eqb-true (byteAt (block image (getD (blocksOf (header image 2)) 0 0)) 3) (mapBlocks n) (map .2);
+    }
+
+module _ {image : List ℕ} (o : Opens image) where
+  pub home-below : home image < blocks image
+  unfolding home
+  home-below = position-below (blocks image) (homeIndex image) (omega (arith, o .least)) (o .found)
+
+  -- The slots of the first sixteen numbers.
+  pub slot-first : (n : ℕ) → 1 ≤ n → n ≤ 16 → slot image n ≡ iblb image + ibsz image + (n - 1)
+  unfolding slot
+  slot-first n l h =
+      ap (λ (i : ℕ). getD (index image) i 0) (omega arith) ∙ o .index-file .row (ibsz image + (n - 1)) (omega arith) ∙ omega arith
+
+  pub header-first : header image 1 ≡ indexHeader image
+  unfolding header indexHeader
+  header-first = ap (block image) (slot-first 1 (omega arith) (omega arith) ∙ omega arith)
+
+  pub indexMap-length : length (indexMap image) ≡ 512 * ibsz image
+  unfolding indexMap
+  indexMap-length = region-length image (iblb image) (ibsz image) (omega (arith, o .size, o .fits))
+
+pub fmax-below : (image : List ℕ) → Bytes image → fmax image < 65536
+unfolding fmax hFmax
+fmax-below image bytes = word-below (block image (home image)) (block-bytes image (home image) bytes) 6
