@@ -1,20 +1,16 @@
 -- Laws of the tests of opening: what each gives where it is passed, and what opening answers at the first that is not.
-use mathlib.Core.Path.{_≡_, refl, sym, ap, _∙_}
-use mathlib.Core.Bool.{Bool, true, false, _&&_, false≢true, and-eq-true-iff}
+use mathlib.Core.Path.{_≡_, refl, ap}
+use mathlib.Core.Bool.{Bool, true, false, false≢true}
 use mathlib.Core.List.{List}
-use Prim.Native.Nat.{ℕ, _+_, _*_, _-_, _≤_, _<_}
+use Prim.Native.Nat.{ℕ, _+_, _-_, _≤_}
 use native.Mathlib.Omega.{arith}
-use borrow.Author.Tests.{eqb-true, leb-true, ne-eqb}
-use lib.Dec.{eqb, leb}
-use lib.ListN.{length, getD}
-use Rattle.image.specs.First.{below}
-use Rattle.image.proofs.Below.{below-at}
+use borrow.Author.Tests.{ne-eqb}
 use Rattle.answer.specs.declared.refusal.Refusal.{Refusal}
 use Rattle.answer.specs.declared.refusal.Refusal.the-variants as refusal
 use Rattle.answer.specs.declared.outcome.Outcome.{Outcome}
 use Rattle.answer.specs.declared.outcome.Outcome.the-variants.{Passed, Refused}
 use Rattle.answer.specs.Outcome.{unless, _then_}
-use Rattle.volume.specs.Opening.{sized, homed, geometry, indexLbn, indexAt, indexMapped, indexed, stored, openVolume}
+use Rattle.volume.specs.Opening.{sized, homed, geometry, indexLbn, indexed, stored, openVolume}
 
 -- Where a row of tests is passed, its first test is met and the rest is passed.
 never-passed : {A : Type 0} (r : Refusal) → Refused r ≡ Passed → A

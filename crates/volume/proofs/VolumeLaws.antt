@@ -1,26 +1,25 @@
 -- What an image that opens is known to have.
-use mathlib.Core.Path.{_≡_, refl, sym, ap, _∙_}
-use mathlib.Core.Bool.{Bool, true, false, _&&_, _||_, and-eq-true-iff}
+use mathlib.Core.Path.{_≡_, ap, _∙_}
+use mathlib.Core.Bool.{Bool, true, _&&_, and-eq-true-iff}
 use mathlib.Core.List.{List}
 use Prim.Native.Nat.{ℕ, _+_, _*_, _-_, _≤_, _<_}
 use native.Mathlib.Omega.{arith}
 use borrow.Author.Tests.{eqb-true, leb-true, ltb-true}
-use lib.Dec.{eqb, leb, ltb}
+use lib.Dec.{eqb, leb}
 use lib.ListN.{length, getD}
 use Rattle.image.specs.Words.{byteAt, Bytes}
-use Rattle.image.specs.Blocks.{region, block}
+use Rattle.image.specs.Blocks.{block}
 use Rattle.image.specs.First.{below}
 use Rattle.image.proofs.Below.{below-at}
 use Rattle.image.proofs.WordLaws.{word-below}
-use Rattle.image.proofs.BlockLaws.{region-length, block-length, block-bytes}
+use Rattle.image.proofs.BlockLaws.{region-length, block-bytes}
 use Rattle.answer.specs.declared.refusal.Refusal.the-variants as refusal
 use Rattle.answer.specs.declared.outcome.Outcome.the-variants.{Passed}
-use Rattle.answer.specs.Outcome.{unless, _then_}
 use Rattle.header.specs.Fields.{hFseq, segment, mEfnu}
-use Rattle.header.specs.Pointers.{pointerCount, pointersAt, pointers, blocksOf}
+use Rattle.header.specs.Pointers.{blocksOf}
 use Rattle.header.specs.Whole.{fault}
 use Rattle.volume.specs.Home.{hFmax, blocks, positions, homeIndex, home}
-use Rattle.volume.specs.Volume.{ibsz, iblb, fmax, indexHeader, index, slot, slots, header, indexMap, mapBlocks, base, storageMap}
+use Rattle.volume.specs.Volume.{ibsz, iblb, fmax, indexHeader, index, slot, slots, header, indexMap, mapBlocks}
 use Rattle.volume.specs.Opening.{sized, homed, indexMapBlocks, geometry, alone, indexLbn, indexAt, indexMapped, indexed, storageMapped, stored, openVolume}
 use Rattle.volume.proofs.HomeLaws.{position-below}
 use Rattle.volume.proofs.OpeningLaws.{passed-first, passed-last, indexLbn-boot, indexLbn-home, indexLbn-row}
