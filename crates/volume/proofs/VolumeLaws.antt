@@ -19,7 +19,8 @@ use Rattle.header.specs.Fields.{hFseq, segment, mEfnu}
 use Rattle.header.specs.Pointers.{blocksOf}
 use Rattle.header.specs.Whole.{fault}
 use Rattle.volume.specs.Home.{hFmax, blocks, positions, homeIndex, home}
-use Rattle.volume.specs.Volume.{ibsz, iblb, fmax, indexHeader, index, slot, slots, header, indexMap, mapBlocks}
+use Rattle.volume.specs.Volume.{ibsz, iblb, fmax, indexHeader, index, slot, slots, header, indexMap, mapBlocks, base, volumeOf}
+use Rattle.volume.specs.declared.volume.Volume.{Volume}
 use Rattle.volume.specs.Opening.{sized, homed, indexMapBlocks, geometry, alone, indexLbn, indexAt, indexMapped, indexed, storageMapped, stored, openVolume}
 use Rattle.volume.proofs.HomeLaws.{position-below}
 use Rattle.volume.proofs.OpeningLaws.{passed-first, passed-last, indexLbn-boot, indexLbn-home, indexLbn-row}
@@ -134,3 +135,23 @@ module _ {image : List ℕ} (o : Opens image) where
 pub fmax-below : (image : List ℕ) → Bytes image → fmax image < 65536
 unfolding fmax hFmax
 fmax-below image bytes = word-below (block image (home image)) (block-bytes image (home image) bytes) 6
+
+-- What calls on an opened volume know of it.
+pub record Says (image : List ℕ) (v : Volume) : Type 0 where
+  pub blocks : v .blocks ≡ blocks image
+  pub home : v .home ≡ home image
+  pub ibsz : v .ibsz ≡ ibsz image
+  pub iblb : v .iblb ≡ iblb image
+  pub fmax : v .fmax ≡ fmax image
+  pub base : v .base ≡ base image
+
+pub says : (image : List ℕ) (v : Volume) → v ≡ volumeOf image → Says image v
+unfolding volumeOf
+says image v e = record {
+  blocks = ap (λ (v : Volume). v .blocks) e;
+  home = ap (λ (v : Volume). v .home) e;
+  ibsz = ap (λ (v : Volume). v .ibsz) e;
+  iblb = ap (λ (v : Volume). v .iblb) e;
+  fmax = ap (λ (v : Volume). v .fmax) e;
+  base = ap (λ (v : Volume). v .base) e;
+}
