@@ -1,16 +1,14 @@
 -- Laws of the home block and of the home positions.
-use mathlib.Core.Path.{_≡_, refl, sym, ap, _∙_}
-use mathlib.Core.Bool.{Bool, true, false, not, _&&_, _||_, and-true, and-false, false≢true}
+use mathlib.Core.Path.{_≡_, refl, ap}
+use mathlib.Core.Bool.{Bool, true, false, not, _&&_, _||_, and-true, and-false}
 use mathlib.Core.List.{List}
-use Prim.Native.Nat.{ℕ, zero, suc, _+_, _*_, _≤_, _<_}
-use native.Mathlib.Numerals.{add-one}
+use Prim.Native.Nat.{ℕ, zero, suc, _*_, _≤_, _<_}
 use native.Mathlib.Omega.{arith}
 use lib.Dec.{eqb}
 use lib.ListN.{length}
 use Rattle.image.specs.Words.{wordAt}
 use Rattle.image.specs.First.{first, below}
 use Rattle.image.specs.Sums.{checksum}
-use Rattle.image.proofs.Below.{below-at}
 use Rattle.volume.specs.Home.{hIbsz, hIblb, hFmax, hSbcl, hVlev, labelAt, isHome, blocks, position, positions, homeAt, homeIndex}
 
 -- Position i is 1 or 256 · i, and those that are counted lie below N.
@@ -32,18 +30,6 @@ position-below n (suc i) most h = omega (arith, position-later (suc i) (omega ar
 pub blocks-of : (image : List ℕ) (n : ℕ) → length image ≡ 512 * n → blocks image ≡ n
 unfolding blocks
 blocks-of image n e = omega arith
-
--- A test that passes at each number below n, when one number more is tried, and when it fails at one of them.
-pub below-more : (n : ℕ) (p : ℕ → Bool) → below n p ≡ true → p n ≡ true → below (n + 1) p ≡ true
-unfolding below
-below-more n p h e = rw (add-one n, e) h
-
-pub below-off : (n : ℕ) (p : ℕ → Bool) (k : ℕ) → k < n → p k ≡ false → below n p ≡ false
-below-off n p k l e = go (below n p) refl
-  where
-    go : (t : Bool) → below n p ≡ t → below n p ≡ false
-    go true h = absurd (false≢true (sym e ∙ below-at n p h k l))
-    go false h = h
 
 -- The tests of a home block in the order in which they are cheap.
 reordered : (a b c d e f g h : Bool) → (a && b && c && d && e && f && g && h) ≡ ((c && d && e && f && g) && (h && (b && a)))

@@ -1,16 +1,21 @@
 -- Laws of the tests of opening: what each gives where it is passed, and what opening answers at the first that is not.
-use mathlib.Core.Path.{_≡_, refl, ap}
-use mathlib.Core.Bool.{Bool, true, false, false≢true}
+use mathlib.Core.Path.{_≡_, refl, sym, ap, _∙_}
+use mathlib.Core.Bool.{Bool, true, false, _&&_, false≢true}
 use mathlib.Core.List.{List}
-use Prim.Native.Nat.{ℕ, _+_, _-_, _≤_}
+use Prim.Native.Nat.{ℕ, _+_, _-_, _≤_, _<_, min}
+use native.Mathlib.Decide.{decLt}
 use native.Mathlib.Omega.{arith}
-use borrow.Author.Tests.{ne-eqb}
+use borrow.Author.Tests.{eq-eqb, ne-eqb, le-leb, lt-leb}
+use lib.Dec.{eqb, leb}
+use lib.ListN.{length, getD}
+use Rattle.image.specs.First.{below}
+use Rattle.image.proofs.Below.{below-at, below-all}
 use Rattle.answer.specs.declared.refusal.Refusal.{Refusal}
 use Rattle.answer.specs.declared.refusal.Refusal.the-variants as refusal
 use Rattle.answer.specs.declared.outcome.Outcome.{Outcome}
 use Rattle.answer.specs.declared.outcome.Outcome.the-variants.{Passed, Refused}
 use Rattle.answer.specs.Outcome.{unless, _then_}
-use Rattle.volume.specs.Opening.{sized, homed, geometry, indexLbn, indexed, stored, openVolume}
+use Rattle.volume.specs.Opening.{sized, homed, geometry, indexLbn, indexAt, indexMapped, indexed, stored, openVolume}
 
 -- Where a row of tests is passed, its first test is met and the rest is passed.
 never-passed : {A : Type 0} (r : Refusal) → Refused r ≡ Passed → A
@@ -73,3 +78,41 @@ module _ (home iblb : ℕ) where
   pub indexLbn-row : (i : ℕ) → 2 ≤ i → indexLbn home iblb i ≡ iblb + (i - 2)
   unfolding indexLbn
   indexLbn-row i l = rw (ne-eqb i 0 (omega arith), ne-eqb i 1 (omega arith))
+
+-- A walk over the runs of an index file. The c blocks from place k on are those from an LBN on.
+module _ (home iblb : ℕ) (lbns : List ℕ) (lbn k c : ℕ) (row : (i : ℕ) → i < c → getD lbns (k + i) 0 ≡ lbn + i) where
+  abbrev runTest : ℕ → Bool
+  runTest i = eqb (lbn + i) (indexLbn home iblb (k + i))
+
+  same-test : (i : ℕ) → i < c → indexAt home iblb lbns (k + i) ≡ runTest i
+  unfolding indexAt
+  same-test i l = ap (λ (x : ℕ). eqb x (indexLbn home iblb (k + i))) (row i l)
+
+  -- They are the index file's as well, or they are not.
+  pub index-more : below k (indexAt home iblb lbns) ≡ true → below c (λ i. eqb (lbn + i) (indexLbn home iblb (k + i))) ≡ true → below (k + c) (indexAt home iblb lbns) ≡ true
+  index-more before run = below-all (k + c) (indexAt home iblb lbns) (λ j l. go j l (decLt j k))
+    where
+      go : (j : ℕ) → j < k + c → Dec (j < k) → indexAt home iblb lbns j ≡ true
+      go j l (yes s) = below-at k (indexAt home iblb lbns) before j s
+      go j l (no s) =
+          let e : j ≡ k + (j - k) = omega arith in
+          rw e (same-test (j - k) (omega arith) ∙ below-at c runTest run (j - k) (omega arith))
+
+  pub index-off : (n : ℕ) → k + c ≤ n → below c (λ i. eqb (lbn + i) (indexLbn home iblb (k + i))) ≡ false → below n (indexAt home iblb lbns) ≡ false
+  index-off n l run = go (below n (indexAt home iblb lbns)) refl
+    where
+      go : (b : Bool) → below n (indexAt home iblb lbns) ≡ b → below n (indexAt home iblb lbns) ≡ false
+      go false e = e
+      go true e =
+          absurd (false≢true (sym run ∙ below-all c runTest (λ i s. sym (same-test i s) ∙ below-at n (indexAt home iblb lbns) e (k + i) (omega arith))))
+
+-- The walk's end.
+pub index-end : (home iblb m : ℕ) (lbns : List ℕ) (k : ℕ) → k ≡ min (length lbns) (m + 18) → below k (indexAt home iblb lbns) ≡ true → eqb k (m + 18) ≡ indexMapped home iblb m lbns
+unfolding indexMapped
+index-end home iblb m lbns k e before = go (decLt (length lbns) (m + 18))
+  where
+    go : Dec (length lbns < m + 18) → eqb k (m + 18) ≡ (leb (m + 18) (length lbns) && below (m + 18) (indexAt home iblb lbns))
+    go (yes s) = rw (ne-eqb k (m + 18) (omega arith), lt-leb (m + 18) (length lbns) s)
+    go (no s) =
+        let f : k ≡ m + 18 = omega arith in
+        rw (eq-eqb k (m + 18) f, le-leb (m + 18) (length lbns) (omega arith), ← f) (sym before)

@@ -8,18 +8,28 @@ use crate::volume::Volume;
 use answer::outcome::Outcome;
 use answer::refusal::Refusal;
 use answer::types::Lbn;
+use header::fields::h_fseq;
+use header::fields::m_efnu;
+use header::fields::segment;
+use header::pointers::block_count;
+use header::pointers::first_pointer;
+use header::pointers::pointer_count;
+use header::pointers::pointer_lbn;
+use header::pointers::pointer_number;
+use header::whole::fault;
 use image::blocks::block;
 use image::words::byte_or_zero;
 ghost use mathlib.Core.Path.{_≡_};
-ghost use Prim.Native.Nat.{_+_, _≤_, _<_, _^_};
+ghost use Prim.Native.Nat.{_+_, _≤_, _<_, _^_, min};
 ghost use mathlib.Core.Bool.{_&&_};
 ghost use lib.Dec.{eqb, leb};
 ghost use lib.ListN.{length};
 ghost use Rattle.answer.specs.declared.outcome.Outcome.the-variants as outcome;
 ghost use Rattle.image.specs.First.{below};
+ghost use Rattle.header.specs.Pointers.{Fits, blocksOf};
 ghost use Rattle.volume.specs.Home.{hIbsz, hIblb, hFmax};
 ghost use Rattle.volume.specs.Volume.{volumeOf};
-ghost use Rattle.volume.specs.Opening.{sized, indexMapBlocks, indexLbn, openVolume, volumeAnswer};
+ghost use Rattle.volume.specs.Opening.{sized, indexMapBlocks, indexLbn, alone, indexMapped, storageMapped, openVolume, volumeAnswer};
 
 // The answer of opening a volume.
 pub enum Opened {
@@ -116,4 +126,65 @@ fn is_index_run(lbn: u32, c: u32, home: u32, iblb: u32, k: u32) -> bool
         i += 1;
     }
     true
+}
+
+// Whether a header is that of number n, sequence n, segment 0, whole and without extension, on a volume of so many blocks.
+fn is_alone(h: &[u8], blocks: u32, n: u32) -> bool
+    requires { ⌜ length (now h) ≡ 512 ⌝ }
+    ensures { λ r. ⌜ r ≡ alone blocks n (now (h .entry)) ⌝ }
+{
+    let test = fault(h, blocks, n);
+    if test != 0 {
+        return false;
+    }
+    let fseq = h_fseq(h);
+    let number = segment(h);
+    let efnu = m_efnu(h);
+    ((fseq as u32) == n) & (number == 0) & (efnu == 0)
+}
+
+// The lesser of two numbers.
+fn least(a: u32, b: u32) -> u32
+    ensures { λ r. ⌜ r ≡ min a b ⌝ }
+{
+    if a <= b { a } else { b }
+}
+
+// Whether the first m + 18 blocks of a header are those of the index file. Its pointers are walked in order.
+fn is_index_mapped(h: &[u8], home: u32, iblb: u32, m: u32) -> bool
+    requires { ⌜ Fits (now h) × (iblb < 2 ^ 31) × (m ≤ 65535) ⌝ }
+    ensures { λ r. ⌜ r ≡ indexMapped home iblb m (blocksOf (now (h .entry))) ⌝ }
+{
+    let at = first_pointer(h);
+    let number = pointer_number(h);
+    let mut done: u32 = 0;
+    let mut p: usize = 0;
+    while p < number {
+        let lbn = pointer_lbn(h, at + 4 * p);
+        let c = least(pointer_count(h, at + 4 * p), m + 18 - done);
+        if !is_index_run(lbn, c, home, iblb, done) {
+            return false;
+        }
+        done += c;
+        p += 1;
+    }
+    done == m + 18
+}
+
+// Whether a header maps exactly 1 + q blocks, by one pointer or by two of which the first maps one block.
+fn is_storage_mapped(h: &[u8], q: u32) -> bool
+    requires { ⌜ Fits (now h) × (q < 2 ^ 31) ⌝ }
+    ensures { λ r. ⌜ r ≡ storageMapped q (now (h .entry)) ⌝ }
+{
+    if block_count(h) != 1 + q {
+        return false;
+    }
+    let number = pointer_number(h);
+    if number == 1 {
+        return true;
+    }
+    if number != 2 {
+        return false;
+    }
+    pointer_count(h, first_pointer(h)) == 1
 }

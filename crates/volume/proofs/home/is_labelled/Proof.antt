@@ -1,7 +1,7 @@
 -- While the loop goes on, the first i bytes are the label's.
 use borrow.Author.Needs.{needs}
 use native.Mathlib.Omega.{arith}
-use mathlib.Core.Path.{_≡_, refl, sym}
+use mathlib.Core.Path.{_≡_, sym}
 use mathlib.Core.Bool.{true}
 use Prim.Native.Nat.{_+_, _≤_, _-_}
 use denote.Ref.{now}
@@ -9,7 +9,7 @@ use borrow.Author.Tests.{eq-eqb, ne-eqb}
 use Rattle.image.specs.Words.{byteAt}
 use Rattle.image.specs.First.{below}
 use Rattle.volume.specs.Home.{label, labelAt}
-use Rattle.volume.proofs.HomeLaws.{below-more, below-off}
+use Rattle.image.proofs.Below.{below-none, below-more, below-fails}
 use Rattle.volume.proofs.home.is_labelled.Statement.{statement}
 use Rattle.volume.proofs.home.is_labelled.Tie as tie
 
@@ -20,15 +20,14 @@ abbrev μ-loop : tie.MeasureT-loop
 μ-loop b i₀ i = 12 - i
 
 loop-holds : tie.Need-loop-holds Inv-loop μ-loop
-unfolding below
-loop-holds c = (search needs, refl)
+loop-holds c = (search needs, below-none _)
 
 returns : tie.Need-returns Inv-loop μ-loop
 unfolding labelAt label
 returns c =
     let l = c .before .before .before in
     let b = now (l .before .args .b) in
-    sym (below-off 12 (labelAt b) (l .loop .i) (omega arith) (ne-eqb (byteAt b (496 + l .loop .i)) (byteAt label (l .loop .i)) (c .if1 .taken)))
+    sym (below-fails 12 (labelAt b) (l .loop .i) (omega arith) (ne-eqb (byteAt b (496 + l .loop .i)) (byteAt label (l .loop .i)) (c .if1 .taken)))
 
 loop-again : tie.Need-loop-again Inv-loop μ-loop
 unfolding labelAt label

@@ -1,14 +1,14 @@
 -- While the loop goes on, the first i blocks are the index file's.
 use borrow.Author.Needs.{needs}
 use native.Mathlib.Omega.{arith}
-use mathlib.Core.Path.{_≡_, refl, sym}
+use mathlib.Core.Path.{_≡_, sym}
 use mathlib.Core.Bool.{true}
 use Prim.Native.Nat.{_+_, _≤_, _-_}
 use lib.Dec.{eqb}
 use borrow.Author.Tests.{eq-eqb, ne-eqb}
 use Rattle.image.specs.First.{below}
 use Rattle.volume.specs.Opening.{indexLbn}
-use Rattle.volume.proofs.HomeLaws.{below-more, below-off}
+use Rattle.image.proofs.Below.{below-none, below-more, below-fails}
 use Rattle.volume.proofs.opening.is_index_run.Statement.{statement}
 use Rattle.volume.proofs.opening.is_index_run.Tie as tie
 
@@ -19,15 +19,14 @@ abbrev μ-loop : tie.MeasureT-loop
 μ-loop lbn c home iblb k i₀ i = c - i
 
 loop-holds : tie.Need-loop-holds Inv-loop μ-loop
-unfolding below
-loop-holds c = (search needs, refl)
+loop-holds c = (search needs, below-none _)
 
 returns : tie.Need-returns Inv-loop μ-loop
 returns c =
     let l = c .before .before .before in
     let a = l .before .args in
     let i = l .loop .i in
-    sym (below-off (a .c) (λ i. eqb (a .lbn + i) (indexLbn (a .home) (a .iblb) (a .k + i))) i (omega arith) (ne-eqb (a .lbn + i) (indexLbn (a .home) (a .iblb) (a .k + i)) (omega arith)))
+    sym (below-fails (a .c) (λ i. eqb (a .lbn + i) (indexLbn (a .home) (a .iblb) (a .k + i))) i (omega arith) (ne-eqb (a .lbn + i) (indexLbn (a .home) (a .iblb) (a .k + i)) (omega arith)))
 
 loop-again : tie.Need-loop-again Inv-loop μ-loop
 loop-again c =
