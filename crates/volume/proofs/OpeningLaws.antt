@@ -1,11 +1,12 @@
 -- Laws of the tests of opening: what each gives where it is passed, and what opening answers at the first that is not.
 use mathlib.Core.Path.{_≡_, refl, sym, ap, _∙_}
-use mathlib.Core.Bool.{Bool, true, false, _&&_, false≢true}
+use mathlib.Core.Logic.{_⊎_, inl, inr}
+use mathlib.Core.Bool.{Bool, true, false, _&&_, _||_, false≢true, and-eq-true-iff}
 use mathlib.Core.List.{List}
-use Prim.Native.Nat.{ℕ, _+_, _-_, _≤_, _<_, min}
+use Prim.Native.Nat.{ℕ, _+_, _*_, _-_, _≤_, _<_, min}
 use native.Mathlib.Decide.{decLt}
 use native.Mathlib.Omega.{arith}
-use borrow.Author.Tests.{eq-eqb, ne-eqb, le-leb, lt-leb}
+use borrow.Author.Tests.{eqb-true, eq-eqb, ne-eqb, le-leb, lt-leb}
 use lib.Dec.{eqb, leb}
 use lib.ListN.{length, getD}
 use Rattle.image.specs.First.{below}
@@ -15,7 +16,9 @@ use Rattle.answer.specs.declared.refusal.Refusal.the-variants as refusal
 use Rattle.answer.specs.declared.outcome.Outcome.{Outcome}
 use Rattle.answer.specs.declared.outcome.Outcome.the-variants.{Passed, Refused}
 use Rattle.answer.specs.Outcome.{unless, _then_}
-use Rattle.volume.specs.Opening.{sized, homed, geometry, indexLbn, indexAt, indexMapped, indexed, stored, openVolume}
+use Rattle.header.specs.Pointers.{pointerLbn, pointerCount, runs, pointersAt, pointers, blocksOf}
+use Rattle.header.proofs.PointerLaws.{runs-none, runs-length, runs-at}
+use Rattle.volume.specs.Opening.{sized, homed, geometry, indexLbn, indexAt, indexMapped, indexed, storageMapped, stored, openVolume}
 
 -- Where a row of tests is passed, its first test is met and the rest is passed.
 never-passed : {A : Type 0} (r : Refusal) → Refused r ≡ Passed → A
@@ -116,3 +119,49 @@ index-end home iblb m lbns k e before = go (decLt (length lbns) (m + 18))
     go (no s) =
         let f : k ≡ m + 18 = omega arith in
         rw (eq-eqb k (m + 18) f, le-leb (m + 18) (length lbns) (omega arith), ← f) (sym before)
+
+-- The storage map's file: its first block, and the row of those that have the bits.
+module _ (q : ℕ) (h : List ℕ) (t : storageMapped q h ≡ true) where
+  shape : (length (blocksOf h) ≡ 1 + q) × ((pointers h ≡ 1) ⊎ (pointers h ≡ 2) × (pointerCount h (pointersAt h) ≡ 1))
+  unfolding storageMapped
+  shape =
+      let both = and-eq-true-iff (eqb (length (blocksOf h)) (1 + q)) (eqb (pointers h) 1 || (eqb (pointers h) 2 && eqb (pointerCount h (pointersAt h)) 1)) .0 t in
+      (eqb-true (length (blocksOf h)) (1 + q) (both .0), go (eqb (pointers h) 1) refl (both .1))
+    where
+      go : (b : Bool) → eqb (pointers h) 1 ≡ b → (b || (eqb (pointers h) 2 && eqb (pointerCount h (pointersAt h)) 1)) ≡ true
+          → (pointers h ≡ 1) ⊎ (pointers h ≡ 2) × (pointerCount h (pointersAt h) ≡ 1)
+      go true e r = inl (eqb-true (pointers h) 1 e)
+      go false e r =
+          let two = and-eq-true-iff (eqb (pointers h) 2) (eqb (pointerCount h (pointersAt h)) 1) .0 r in
+          inr (eqb-true (pointers h) 2 (two .0), eqb-true (pointerCount h (pointersAt h)) 1 (two .1))
+
+  pub storage-long : length (blocksOf h) ≡ 1 + q
+  storage-long = shape .0
+
+  -- One pointer maps them all, or the second maps those after the first.
+  row-of : pointers h ≡ 1 → (i : ℕ) → i < 1 + q → getD (blocksOf h) i 0 ≡ pointerLbn h (pointersAt h + 4 * 0) + i
+  unfolding blocksOf
+  row-of one i l =
+      let at = pointersAt h in
+      let long : length (runs h at 1) ≡ 1 + q = ap (λ (k : ℕ). length (runs h at k)) (sym one) ∙ storage-long in
+      let none = ap length (runs-none h at) in
+      let e : i ≡ length (runs h at 0) + i = omega arith in
+      rw (one, e) (runs-at h at 0 1 i (omega arith) (omega (arith, runs-length h at 0)) ∙ omega arith)
+
+  row-after : pointers h ≡ 2 → pointerCount h (pointersAt h) ≡ 1 → (i : ℕ) → i < q → getD (blocksOf h) (1 + i) 0 ≡ pointerLbn h (pointersAt h + 4 * 1) + i
+  unfolding blocksOf
+  row-after two first i l =
+      let at = pointersAt h in
+      let long : length (runs h at 2) ≡ 1 + q = ap (λ (k : ℕ). length (runs h at k)) (sym two) ∙ storage-long in
+      let one : length (runs h at 1) ≡ 1 = omega (arith, ap length (runs-none h at), runs-length h at 0, ap (pointerCount h) {x = at + 4 * 0} {y = at} (omega arith), first) in
+      rw (two, ← one) (runs-at h at 1 2 i (omega arith) (omega (arith, runs-length h at 1)))
+
+  pub storage-row : (i : ℕ) → i < q → getD (blocksOf h) (1 + i) 0 ≡ getD (blocksOf h) 1 0 + i
+  storage-row i l = go (shape .1)
+    where
+      at : ℕ
+      at = pointersAt h
+
+      go : (pointers h ≡ 1) ⊎ (pointers h ≡ 2) × (pointerCount h at ≡ 1) → getD (blocksOf h) (1 + i) 0 ≡ getD (blocksOf h) 1 0 + i
+      go (inl one) = omega (arith, row-of one (1 + i) (omega arith), row-of one 1 (omega arith))
+      go (inr two) = omega (arith, row-after (two .0) (two .1) i l, row-after (two .0) (two .1) 0 (omega arith))

@@ -2,7 +2,8 @@
 use mathlib.Core.Path.{_≡_, ap, _∙_}
 use mathlib.Core.Bool.{Bool, true, _&&_, and-eq-true-iff}
 use mathlib.Core.List.{List}
-use Prim.Native.Nat.{ℕ, _+_, _*_, _-_, _≤_, _<_}
+use native.Mathlib.Numerals.{add-one}
+use Prim.Native.Nat.{ℕ, zero, suc, _+_, _*_, _-_, _≤_, _<_}
 use native.Mathlib.Omega.{arith}
 use borrow.Author.Tests.{eqb-true, leb-true, ltb-true}
 use lib.Dec.{eqb, leb}
@@ -12,18 +13,20 @@ use Rattle.image.specs.Blocks.{block}
 use Rattle.image.specs.First.{below}
 use Rattle.image.proofs.Below.{below-at}
 use Rattle.image.proofs.WordLaws.{word-below}
-use Rattle.image.proofs.BlockLaws.{region-length, block-bytes}
+use Rattle.image.proofs.BlockLaws.{region-length, block-length, block-bytes}
 use Rattle.answer.specs.declared.refusal.Refusal.the-variants as refusal
 use Rattle.answer.specs.declared.outcome.Outcome.the-variants.{Passed}
-use Rattle.header.specs.Fields.{hFseq, segment, mEfnu}
-use Rattle.header.specs.Pointers.{blocksOf}
+use Rattle.header.specs.Fields.{hFseq, mapArea, segment, mEfnu, mUse}
+use Rattle.header.specs.Pointers.{pointerCount, runs, pointersAt, pointers, Fits, blocksOf}
 use Rattle.header.specs.Whole.{fault}
+use Rattle.header.proofs.PointerLaws.{runs-none, runs-length}
+use Rattle.header.proofs.WholeLaws.{whole-fits, whole-inside}
 use Rattle.volume.specs.Home.{hFmax, blocks, positions, homeIndex, home}
-use Rattle.volume.specs.Volume.{ibsz, iblb, fmax, indexHeader, index, slot, slots, header, indexMap, mapBlocks, base, volumeOf}
+use Rattle.volume.specs.Volume.{ibsz, iblb, fmax, indexHeader, index, slot, slots, header, indexMap, mapBlocks, base, storageMap, volumeOf}
 use Rattle.volume.specs.declared.volume.Volume.{Volume}
 use Rattle.volume.specs.Opening.{sized, homed, indexMapBlocks, geometry, alone, indexLbn, indexAt, indexMapped, indexed, storageMapped, stored, openVolume}
 use Rattle.volume.proofs.HomeLaws.{position-below}
-use Rattle.volume.proofs.OpeningLaws.{passed-first, passed-last, indexLbn-boot, indexLbn-home, indexLbn-row}
+use Rattle.volume.proofs.OpeningLaws.{passed-first, passed-last, indexLbn-boot, indexLbn-home, indexLbn-row, storage-long, storage-row}
 
 -- A header that stands alone: whole, of its number and sequence, segment 0, without extension.
 pub record Alone (total n : ℕ) (h : List ℕ) : Type 0 where
@@ -128,9 +131,65 @@ module _ {image : List ℕ} (o : Opens image) where
   unfolding header indexHeader
   header-first = ap (block image) (slot-first 1 (omega arith) (omega arith) ∙ omega arith)
 
+  -- Every block of the index file, and so every slot, lies on the volume.
+  pub index-below : (i : ℕ) → i < length (index image) → getD (index image) i 0 < blocks image
+  unfolding index
+  index-below = whole-inside (blocks image) 1 (indexHeader image) (o .index-header .whole)
+
+  pub slot-below : (n : ℕ) → 1 ≤ n → n ≤ slots image → slot image n < blocks image
+  unfolding slot slots
+  slot-below n l h = index-below (1 + ibsz image + n) (omega (arith, o .index-file .long))
+
+  pub header-length : (n : ℕ) → 1 ≤ n → n ≤ slots image → length (header image n) ≡ 512
+  unfolding header
+  header-length n l h = block-length image (slot image n) (omega (arith, o .size, slot-below n l h))
+
+  -- At least sixteen numbers have a slot.
+  pub slots-least : 16 ≤ slots image
+  unfolding slots
+  slots-least = omega (arith, o .index-file .long)
+
+  pub indexHeader-length : length (indexHeader image) ≡ 512
+  unfolding indexHeader
+  indexHeader-length = block-length image (iblb image + ibsz image) (omega (arith, o .size, o .fits))
+
+  pub indexHeader-fits : Fits (indexHeader image)
+  indexHeader-fits = whole-fits (blocks image) 1 (indexHeader image) indexHeader-length (o .index-header .whole)
+
+  pub header2-fits : Fits (header image 2)
+  header2-fits = whole-fits (blocks image) 2 (header image 2) (header-length 2 (omega arith) (omega (arith, slots-least))) (o .storage-header .whole)
+
+  -- The storage map: 1 + q blocks, of which the q with the bits stand in a row on the volume.
+  pub storage-size : length (blocksOf (header image 2)) ≡ 1 + mapBlocks (blocks image)
+  storage-size = storage-long (mapBlocks (blocks image)) (header image 2) (o .shape)
+
+  pub storage-base : (i : ℕ) → i < mapBlocks (blocks image) → getD (blocksOf (header image 2)) (1 + i) 0 ≡ base image + i
+  unfolding base
+  storage-base = storage-row (mapBlocks (blocks image)) (header image 2) (o .shape)
+
+  pub base-fits : base image + mapBlocks (blocks image) ≤ blocks image
+  unfolding mapBlocks
+  base-fits =
+      let q = mapBlocks (blocks image) in
+      omega (arith, o .least, storage-size, storage-base (q - 1) (omega (arith, o .least)), whole-inside (blocks image) 2 (header image 2) (o .storage-header .whole) (1 + (q - 1)) (omega (arith, storage-size)))
+
+  pub storageMap-length : length (storageMap image) ≡ 512 * mapBlocks (blocks image)
+  unfolding storageMap
+  storageMap-length = region-length image (base image) (mapBlocks (blocks image)) (omega (arith, o .size, base-fits))
+
   pub indexMap-length : length (indexMap image) ≡ 512 * ibsz image
   unfolding indexMap
   indexMap-length = region-length image (iblb image) (ibsz image) (omega (arith, o .size, o .fits))
+
+-- How many blocks a header can cover.
+runs-most : (h : List ℕ) (at p : ℕ) → Bytes h → length (runs h at p) ≤ 256 * p
+unfolding pointerCount
+runs-most h at zero bytes = omega (arith, ap length (runs-none h at))
+runs-most h at (suc p) bytes = rw (← add-one p) (omega (arith, runs-most h at p bytes, runs-length h at p, bytes .each (at + 4 * p + 1)))
+
+pub blocksOf-most : (h : List ℕ) → Bytes h → length (blocksOf h) ≤ 32512
+unfolding blocksOf pointers mUse
+blocksOf-most h bytes = omega (arith, runs-most h (pointersAt h) (pointers h) bytes, bytes .each (mapArea h + 8))
 
 pub fmax-below : (image : List ℕ) → Bytes image → fmax image < 65536
 unfolding fmax hFmax
