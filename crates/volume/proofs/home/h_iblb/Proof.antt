@@ -10,11 +10,4 @@ returns c = cc
 pub h-iblb-spec : {M : Type 1} → statement M
 h-iblb-spec =
     tie.close
-    (tie.spec
-    (search needs)
-    (search needs)
-    (search needs)
-    (search needs)
-    (search needs)
-    (search needs)
-    returns)
+    (tie.spec (search needs) (search needs) (search needs) (search needs) (search needs) (search needs) returns)

@@ -10,10 +10,4 @@ returns c = cc
 pub has-home-fields-spec : {M : Type 1} → statement M
 has-home-fields-spec =
     tie.close
-    (tie.spec
-    (search needs)
-    (search needs)
-    (search needs)
-    (search needs)
-    (search needs)
-    returns)
+    (tie.spec (search needs) (search needs) (search needs) (search needs) (search needs) returns)

@@ -36,14 +36,4 @@ returns-4 c =
 pub is-home-spec : {M : Type 1} → statement M
 is-home-spec =
     tie.close
-    (tie.spec
-    (search needs)
-    returns
-    (search needs)
-    returns-2
-    (search needs)
-    (search needs)
-    returns-3
-    (search needs)
-    (search needs)
-    returns-4)
+    (tie.spec (search needs) returns (search needs) returns-2 (search needs) (search needs) returns-3 (search needs) (search needs) returns-4)

@@ -38,13 +38,4 @@ returns-4 c =
 pub is-storage-mapped-spec : {M : Type 1} → statement M
 is-storage-mapped-spec =
     tie.close
-    (tie.spec
-    (search needs)
-    (search needs)
-    returns
-    (search needs)
-    returns-2
-    returns-3
-    (search needs)
-    (search needs)
-    returns-4)
+    (tie.spec (search needs) (search needs) returns (search needs) returns-2 returns-3 (search needs) (search needs) returns-4)
