@@ -247,14 +247,15 @@ abbrev pub slotIn : Place → Slot
 slotIn (place.At l) = At l
 slotIn (place.Past i) = Missing
 
-pub slot-place : (image : List ℕ) → Opens image → (n : ℕ) → slotIn (placeIn (index image) (1 + ibsz image + n)) ≡ slotOf image n
+pub slot-place : (image : List ℕ) → Opens image → (n i : ℕ) → i ≡ 1 + ibsz image + n → slotIn (placeIn (index image) i) ≡ slotOf image n
 unfolding slotOf hasSlot slots slot
-slot-place image o n = go (decLt (1 + ibsz image + n) (length (index image)))
+slot-place image o n i e = go (decLt i (length (index image)))
   where
-    go : Dec (1 + ibsz image + n < length (index image)) → slotIn (placeIn (index image) (1 + ibsz image + n)) ≡ slotOf image n
-    go (yes l) = rw (place-at (index image) (1 + ibsz image + n) l, le-leb n (length (index image) - (2 + ibsz image)) (omega arith))
+    go : Dec (i < length (index image)) → slotIn (placeIn (index image) i) ≡ slotOf image n
+    go (yes l) =
+        rw (place-at (index image) i l, le-leb n (length (index image) - (2 + ibsz image)) (omega arith), e)
     go (no l) =
-        rw (place-past (index image) (1 + ibsz image + n) (omega arith), lt-leb n (length (index image) - (2 + ibsz image)) (omega (arith, o .index-file .long)))
+        rw (place-past (index image) i (omega arith), lt-leb n (length (index image) - (2 + ibsz image)) (omega (arith, o .index-file .long)))
 
 -- A header can cover 32,512 blocks, so no higher number has a slot.
 pub slot-none : (image : List ℕ) → Bytes image → (n : ℕ) → 32512 < n → slotOf image n ≡ Missing

@@ -190,7 +190,10 @@ fn is_storage_mapped(h: &[u8], q: u32) -> bool
     if number != 2 {
         return false;
     }
-    pointer_count(h, first_pointer(h)) == 1
+    if pointer_count(h, first_pointer(h)) != 1 {
+        return false;
+    }
+    true
 }
 
 // The LBN of block i, from 0, of a header; 0 past the last.

@@ -2,11 +2,9 @@
 use borrow.Author.Needs.{needs}
 use native.Mathlib.Omega.{arith}
 use mathlib.Core.Path.{_≡_, sym, ap, ap₂, _∙_}
-use mathlib.Core.List.{List}
-use Prim.Native.Nat.{ℕ, _+_, _≤_}
+use Prim.Native.Nat.{_+_, _≤_}
 use denote.Ref.{now}
 use Rattle.image.specs.Blocks.{block}
-use Rattle.header.specs.Pointers.{blocksOf, placeIn}
 use Rattle.volume.specs.Volume.{indexHeader, index, slotOf}
 use Rattle.volume.proofs.VolumeLaws.{opens, indexHeader-fits, says, slotIn, slot-place, slot-none}
 use Rattle.volume.proofs.volume.slot_of.Statement.{statement}
@@ -33,9 +31,7 @@ slot-read c =
     let b = c .before .before in
     let s = b .before .before .before .before in
     let image = now (s .args .image) in
-    let n = s .args .n .0 in
-    let e = ap₂ (λ (h : List ℕ) (m : ℕ). placeIn (blocksOf h) (1 + m + n)) (header-read b) (says image (s .args .v) (s .pre .1) .ibsz) in
-    ap slotIn (c .place-of .ensures ∙ e) ∙ slot-place image (opens image (s .pre .0)) n
+    rw (c .place-of .ensures, header-read b) (slot-place image (opens image (s .pre .0)) (s .args .n .0) _ (omega (arith, says image (s .args .v) (s .pre .1) .ibsz)))
 
 returns : tie.Need-returns
 returns c =
