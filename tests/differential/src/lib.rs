@@ -1,7 +1,6 @@
 //! What the comparisons of library and model share.
 //!
 //! * [`run`]: numbers and counts the cases of a test, and reports a case that differs;
-//! * [`random`]: the generator of pseudo-random cases;
 //! * [`names`]: the comparisons of the calls on names, and the names and texts that they use.
 //!
 //! The environment changes a run:
@@ -13,8 +12,7 @@
 #![forbid(unsafe_code)]
 
 pub mod names;
-pub mod random;
 pub mod run;
 
-pub use random::Random;
 pub use run::Run;
+pub use volumes::Random;

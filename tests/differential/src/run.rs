@@ -1,10 +1,10 @@
 //! The run of one test: it numbers and counts the cases, and reports a case that differs.
 
-use crate::random::Random;
 use model::Number;
 use std::env;
 use std::io::{self, Write};
 use std::thread;
+use volumes::Random;
 
 /// The seed of the random cases where the environment gives none.
 const SEED: u64 = 0x0d51_1986;

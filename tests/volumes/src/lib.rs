@@ -1,0 +1,23 @@
+//! The volumes of the tests.
+//!
+//! They are built from the rules of paper 01, apart from the model: the model reads volumes and
+//! this crate writes them, so that a slip in one is seen against the other.
+//!
+//! * [`random`]: the generator of pseudo-random numbers;
+//! * [`block`]: words and checksums of a block;
+//! * [`header`]: what a header says, and how it is put;
+//! * [`volume`]: a volume, and the knowledge of what was put where;
+//! * [`volume_v`]: the paper's own example;
+//! * [`shapes`]: sound volumes of every shape, at random.
+
+#![forbid(unsafe_code)]
+
+pub mod block;
+pub mod header;
+pub mod random;
+pub mod shapes;
+pub mod volume;
+pub mod volume_v;
+
+pub use random::Random;
+pub use volume::Volume;
