@@ -176,9 +176,9 @@ pub fn damages() -> Vec<Damage> {
     all
 }
 
-/// Volumes to damage, of every kind that some damage needs: small ones, medium ones, one whose
-/// chained file has 256 headers, and one whose storage map has two blocks.
-pub fn volumes_to_damage(seed: u64, small: u64, medium: u64) -> Vec<Volume> {
+/// Volumes to damage, of every kind that some damage needs: small ones, one whose chained file has
+/// 256 headers, and one whose maps have more than one block.
+pub fn volumes_to_damage(seed: u64, small: u64) -> Vec<Volume> {
     let make = |number: u64, size| {
         let mut random = Random::of_case(seed, "volumes_to_damage", number);
         random_volume(&mut random, size)
@@ -188,14 +188,12 @@ pub fn volumes_to_damage(seed: u64, small: u64, medium: u64) -> Vec<Volume> {
         all.find(test).expect("there is always another one")
     };
     let mut volumes: Vec<Volume> = (0..small).map(|number| make(number, Size::Small)).collect();
-    volumes.extend((small..small + medium).map(|number| make(number, Size::Medium)));
     volumes.push(find(Size::Blocks(1_200), |volume| {
         let chained = volume.file(volume.roles.chained);
         chained.headers.len() == 256 && volume.unused_number().is_some()
     }));
-    volumes.push(find(Size::Blocks(4_097), |volume| volume.plan.home > 1));
-    volumes.push(find(Size::Blocks(8_300), |volume| {
-        volume.plan.h_fmax > 4_096
+    volumes.push(find(Size::Blocks(4_097), |volume| {
+        volume.plan.home > 1 && volume.plan.h_fmax > 4_096
     }));
     volumes
 }
@@ -245,7 +243,7 @@ mod tests {
 
     #[test]
     fn every_damage_is_answered_as_the_paper_says() {
-        let volumes = volumes_to_damage(5, 20, 1);
+        let volumes = volumes_to_damage(5, 20);
         for damage in damages() {
             let left = applied(&damage, &volumes, Checksums::Left);
             let put_right = applied(&damage, &volumes, Checksums::PutRight);

@@ -66,15 +66,20 @@ impl Space {
         None
     }
 
+    /// Takes `count` blocks in a row at a start, which are free.
+    fn take_run_from(&mut self, start: u32, count: u32) -> u32 {
+        for lbn in start..start + count {
+            self.take(lbn);
+        }
+        start
+    }
+
     /// Takes `count` blocks in a row somewhere, if there are any.
     fn take_run(&mut self, random: &mut Random, count: u32) -> Option<u32> {
         let from = random.below(self.taken.len() as u64) as u32;
         let start = self.find_from(from, count);
         let start = start.or_else(|| self.find_from(0, count))?;
-        for lbn in start..start + count {
-            self.take(lbn);
-        }
-        Some(start)
+        Some(self.take_run_from(start, count))
     }
 
     /// Takes `count` blocks in runs of at most `longest`, or as many as there are.
@@ -180,7 +185,12 @@ fn random_plan(random: &mut Random, size: Size) -> (Plan, Space) {
         storage_map: 0,
     };
     let first = plan.index_map_blocks() + FIRST_HEADERS;
-    plan.h_iblb = run(&mut space, random, first);
+    plan.h_iblb = if home == 1 && random.once_in(4) {
+        // Boot block, home block, index map and slots are one run.
+        space.take_run_from(2, first)
+    } else {
+        run(&mut space, random, first)
+    };
     let q = plan.storage_map_blocks();
     if random.once_in(2) {
         plan.control = run(&mut space, random, 1 + q);
@@ -645,7 +655,7 @@ mod tests {
         expect_some(&volumes, "all slots", |it| it.last_slot() == h_fmax(it));
         expect_some(&volumes, "more slots", |it| it.last_slot() > h_fmax(it));
         let pointers = |it: &Volume, number| it.file(number).pointers().count();
-        expect_some(&volumes, "one index pointer", |it| pointers(it, 1) == 3);
+        expect_some(&volumes, "one index pointer", |it| pointers(it, 1) == 1);
         expect_some(&volumes, "index pointers", |it| pointers(it, 1) > 20);
         for count in [1, 2] {
             expect_some(&volumes, "storage", |it| pointers(it, 2) == count);

@@ -125,7 +125,7 @@ impl HeaderEdit<'_> {
     pub fn add_pointer(&mut self, pointer: Pointer) -> bool {
         let m_use = self.map_byte(in_map::M_USE);
         let most = self.most_m_max();
-        if m_use + 2 > most {
+        if m_use.saturating_add(2) > most {
             return false;
         }
         let map = self.map_mut();
@@ -139,13 +139,16 @@ impl HeaderEdit<'_> {
     /// Moves a pointer so that it ends at N. False if there is none at that place.
     fn move_pointer_to_n(&mut self, place: usize) -> bool {
         let pointers = usize::from(self.map_byte(in_map::M_USE)) / 2;
-        if place >= pointers {
+        let at = self.map + in_map::POINTERS + 4 * place;
+        if place >= pointers || at + 4 > CHECKSUM {
             return false;
         }
-        let at = self.map + in_map::POINTERS + 4 * place;
         let count = u32::from(self.block[at + 1]);
+        let Some(lbn) = self.blocks.checked_sub(count) else {
+            return false;
+        };
         let pointer = Pointer {
-            lbn: self.blocks - count,
+            lbn,
             blocks: count + 1,
         };
         self.block[at..at + 4].copy_from_slice(&pointer.bytes());
@@ -205,7 +208,7 @@ const NOT_WHOLE: &[(&str, Change)] = &[
     ("4: H.IDOF 0", Put(|it| it.block[at::H_IDOF] = 0)),
     (
         "5: H.IDOF one more than H.MPOF",
-        Put(|it| it.block[at::H_IDOF] = it.block[at::H_MPOF] + 1),
+        Put(|it| it.block[at::H_IDOF] = it.block[at::H_MPOF].saturating_add(1)),
     ),
     ("5: H.IDOF 255", Put(|it| it.block[at::H_IDOF] = 255)),
     (
@@ -221,7 +224,7 @@ const NOT_WHOLE: &[(&str, Change)] = &[
         Try(|it| {
             let most = it.most_m_max();
             let m_use = it.map_byte(in_map::M_USE);
-            if m_use == most {
+            if m_use >= most {
                 return false;
             }
             put_m_max(it, most);
@@ -334,7 +337,7 @@ const WHOLE: &[(&str, Change)] = &[
         Try(|it| {
             let m_use = usize::from(it.map_byte(in_map::M_USE));
             let from = it.map + in_map::POINTERS + 2 * m_use;
-            it.block[from..CHECKSUM].fill(0xff);
+            it.block[from.min(CHECKSUM)..CHECKSUM].fill(0xff);
             true
         }),
     ),
