@@ -1,12 +1,12 @@
 //! Measures the exported calls against plain Rust that does the same work on the same images.
 //!
-//! Both sides answer the same twelve words, which is checked. They take turns round by round, so that
-//! what else the machine does falls on both. A line of the table gives the median time of a call on
-//! each side, and the ratio library/Rust: below 1 the library is faster.
+//! Both sides answer the same twelve words, which is checked. They take turns round by round, so
+//! that what else the machine does falls on both. A line of the table gives the median time of a
+//! call on each side, and the ratio library/Rust: below 1 the library is faster.
 //!
-//! The Rust side is built as the default release profile builds it, without the overflow checks that
-//! the tests have, and the library's calls go through the checking wrappers that the tests use: where
-//! the two sides are not quite alike, it is in favour of Rust.
+//! The Rust side is built as the default release profile builds it, without the overflow checks
+//! that the tests have, and the library's calls go through the checking wrappers that the tests
+//! use: where the two sides are not quite alike, it is in favour of Rust.
 
 #![forbid(unsafe_code)]
 
@@ -15,8 +15,9 @@ mod plain;
 use plain::Answer;
 use std::hint::black_box;
 use std::time::{Duration, Instant};
+use volumes::directory::name_words;
 use volumes::header::{pointers_of, Areas, Header, Pointer};
-use volumes::shapes::{name_words, MOST_BLOCKS, RL02_BLOCKS};
+use volumes::shapes::{MOST_BLOCKS, RL02_BLOCKS};
 use volumes::volume::{File, Plan, Record, Volume};
 
 /// How long a side of a case is measured at least, if a few rounds do not take longer.

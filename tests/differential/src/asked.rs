@@ -4,8 +4,8 @@ use crate::images::Asked;
 use model::file;
 use model::Id;
 use volumes::block::word;
+use volumes::directory::name_words;
 use volumes::header::at;
-use volumes::shapes::name_words;
 use volumes::volume::BLOCK_RECORDS;
 use volumes::{Random, Volume};
 
@@ -58,8 +58,8 @@ fn sequence_of(volume: &Volume, number: u16) -> u16 {
     slot.map_or(1, |lbn| word(volume.block(lbn), at::H_FSEQ))
 }
 
-/// VBNs near every edge of a file: of the whole, of each header and of each pointer, as it was built
-/// and as the model finds it.
+/// VBNs near every edge of a file: of the whole, of each header and of each pointer, as it was
+/// built and as the model finds it.
 pub fn vbns(volume: &Volume, image: &[u8], id: Id) -> Vec<u32> {
     let mut vbns = vec![0, 1, 2, 255, 256, 257, 1 << 31, u32::MAX - 1, u32::MAX];
     let opened = file::open(image, id);

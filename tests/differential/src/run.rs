@@ -115,7 +115,8 @@ impl Run {
         true
     }
 
-    /// Runs random cases, each with its generator: as many as the environment says, or else `usual`.
+    /// Runs random cases, each with its generator: as many as the environment says, or else
+    /// `usual`.
     pub fn random_cases(&mut self, usual: u64, mut case: impl FnMut(&mut Run, &mut Random)) {
         for _ in 0..self.cases(usual) {
             let mut random = self.random();

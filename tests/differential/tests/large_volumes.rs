@@ -1,13 +1,14 @@
-//! The largest volumes and the longest file: LBNs of three bytes, maps of 126 and 255 blocks, a home
-//! at the last position, and a chain of 256 full headers.
+//! The largest volumes and the longest file: LBNs of three bytes, maps of 126 and 255 blocks, a
+//! home at the last position, and a chain of 256 full headers.
 
 use differential::asked::ids;
 use differential::images::{Asked, Call, Subject};
 use differential::{Random, Run};
 use library::Lender;
 use model::{Id, Number};
+use volumes::directory::name_words;
 use volumes::header::{pointers_of, Areas, Header, Pointer, MOST_POINTERS};
-use volumes::shapes::{name_words, MOST_BLOCKS};
+use volumes::shapes::MOST_BLOCKS;
 use volumes::volume::{File, Plan, Record, Volume};
 
 /// A volume of N blocks with files 1 to 5 and a chained file of high numbers and high LBNs.
@@ -180,8 +181,8 @@ fn the_largest_volumes() {
     });
 }
 
-/// A volume whose file 6 has 256 headers of 113 pointers of 256 blocks: the longest chain, 7,405,568
-/// blocks. All pointers cover the same blocks, which opening does not ask about.
+/// A volume whose file 6 has 256 headers of 113 pointers of 256 blocks: the longest chain,
+/// 7,405,568 blocks. All pointers cover the same blocks, which opening does not ask about.
 fn longest_file() -> Volume {
     let plan = Plan {
         blocks: 700,

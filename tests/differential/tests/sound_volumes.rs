@@ -1,5 +1,5 @@
-//! Sound volumes of every shape: the library against the builder, which knows what it put where, and
-//! against the model.
+//! Sound volumes of every shape: the library against the builder, which knows what it put where,
+//! and against the model.
 
 use differential::asked::{all_of, ids, opening_of, places, some, some_of};
 use differential::images::{Call, Subject};

@@ -6,8 +6,9 @@ use differential::Run;
 use library::Lender;
 use model::{Id, Number};
 use volumes::block::{put_word, seal_header};
+use volumes::directory::name_words;
 use volumes::header::at;
-use volumes::shapes::{name_words, random_volume, Size};
+use volumes::shapes::{random_volume, Size};
 use volumes::volume::Record;
 use volumes::volume_v::{volume_v, READS};
 

@@ -11,8 +11,8 @@ pub const RECORD_BYTES: usize = 16;
 /// Paper 01, "Names and directories": "Every mapped block holds 32 records."
 pub const BLOCK_RECORDS: u64 = 32;
 
-/// Paper 01, "Names and directories": "A directory record has 16 bytes: ID (3 words), name (3), type,
-/// version."
+/// Paper 01, "Names and directories": "A directory record has 16 bytes: ID (3 words), name (3),
+/// type, version."
 #[derive(Clone, Copy, Debug, PartialEq, Eq)]
 pub struct Record {
     pub id: Id,
@@ -60,9 +60,9 @@ fn first_record(file: &File, first: u64, test: impl Fn(&Record) -> bool) -> Opti
     records.find(|(_, record)| !record.is_empty() && test(record))
 }
 
-/// The answer of look-up. Paper 01, "Names and directories": "Look-up gives the ID of the first equal
-/// record not empty, in VBN order, as stored, opened or not.", and "Answer numbers": "Look-up tests 14
-/// after 12.", "14 NAME | not proper, text or words", "15 ABSENT | no equal record".
+/// The answer of look-up. Paper 01, "Names and directories": "Look-up gives the ID of the first
+/// equal record not empty, in VBN order, as stored, opened or not.", and "Answer numbers": "Look-up
+/// tests 14 after 12.", "14 NAME | not proper, text or words", "15 ABSENT | no equal record".
 pub fn answer_look_up(file: &Opened, name: &Name) -> Answer {
     let file = match file {
         Err(number) => return Answer::refused(*number),
@@ -79,8 +79,8 @@ pub fn answer_look_up(file: &Opened, name: &Name) -> Answer {
 
 /// The answer of a walker's step from a place: the record, then the place to go on from. Paper 01,
 /// "Names and directories": "Each step answers the next record that is not empty; after the last it
-/// answers ABSENT and stays there; opening one answers as opening its file does, and if refused it is
-/// there at once." So a step on a file that does not open is past the last record.
+/// answers ABSENT and stays there; opening one answers as opening its file does, and if refused it
+/// is there at once." So a step on a file that does not open is past the last record.
 pub fn answer_next_record(file: &Opened, place: u64) -> Answer {
     let file = match file {
         Err(_) => return Answer::refused(Number::Absent),

@@ -45,8 +45,8 @@ pub struct File<'a> {
 pub type Opened<'a> = Result<File<'a>, Number>;
 
 impl<'a> File<'a> {
-    /// Paper 01, "Answer numbers": "block count (open file)". Paper 01, "The header": "count c covers
-    /// c+1 blocks".
+    /// Paper 01, "Answer numbers": "block count (open file)". Paper 01, "The header": "count c
+    /// covers c+1 blocks".
     pub fn blocks(&self) -> u64 {
         blocks_of(&self.pointers)
     }
@@ -56,8 +56,8 @@ impl<'a> File<'a> {
         lbn_of(&self.pointers, vbn)
     }
 
-    /// The blocks of the file in VBN order. Paper 01, "The header": "VBNs run through its pointers in
-    /// order."
+    /// The blocks of the file in VBN order. Paper 01, "The header": "VBNs run through its pointers
+    /// in order."
     pub fn blocks_in_order(&self) -> impl Iterator<Item = &'a [u8]> + '_ {
         let lbns = self.pointers.iter().flat_map(Pointer::lbns);
         lbns.map(|lbn| self.image.block(lbn))
@@ -65,9 +65,9 @@ impl<'a> File<'a> {
 }
 
 /// The first header of a file and the volume, where 1 to 11 are not given. Paper 01, "Answer
-/// numbers": "6 RELVOL | third ID word not 0", "7 NUMBER | 0, above H.FMAX, no slot, not in use", "8
-/// HEADER | not whole", "9 SEQUENCE | H.FSEQ differs", "10 SEGMENT | segment not 0", "11 LOCKED |
-/// either flag", and "Order: 1 to 5; .. 6 to 12".
+/// numbers": "6 RELVOL | third ID word not 0", "7 NUMBER | 0, above H.FMAX, no slot, not in use",
+/// "8 HEADER | not whole", "9 SEQUENCE | H.FSEQ differs", "10 SEGMENT | segment not 0", "11 LOCKED
+/// | either flag", and "Order: 1 to 5; .. 6 to 12".
 fn first_header<'a>(volume: &Volume<'a>, id: Id) -> Result<Header<'a>, Number> {
     if id.volume != 0 {
         return Err(Number::Relvol);
@@ -105,8 +105,8 @@ pub fn open(bytes: &[u8], id: Id) -> Opened<'_> {
     })
 }
 
-/// What opening a file meets where it answers HEADER: the first of the twelve tests that is not met.
-/// Paper 01, "The header": "*Whole* for n: ..".
+/// What opening a file meets where it answers HEADER: the first of the twelve tests that is not
+/// met. Paper 01, "The header": "*Whole* for n: ..".
 pub fn unmet_test(bytes: &[u8], id: Id) -> Option<usize> {
     let volume = volume::open(bytes).ok()?;
     if first_header(&volume, id).err()? != Number::Header {

@@ -38,9 +38,9 @@ pub fn home_positions(blocks: u64) -> impl Iterator<Item = Lbn> {
     all.take_while(move |&position| position < blocks).map(Lbn)
 }
 
-/// Paper 01, "The volume": "both checksums right, H.IBSZ, H.IBLB, H.FMAX not 0, H.SBCL 1, H.VLEV 257
-/// or 258, H.INDF `DECFILE11A` and two spaces", and "H.CHK1, byte 58, is the same sum over words 0
-/// to 28".
+/// Paper 01, "The volume": "both checksums right, H.IBSZ, H.IBLB, H.FMAX not 0, H.SBCL 1, H.VLEV
+/// 257 or 258, H.INDF `DECFILE11A` and two spaces", and "H.CHK1, byte 58, is the same sum over
+/// words 0 to 28".
 fn is_home(block: &[u8]) -> bool {
     let both_checksums = checksum_is_right(block) && sum_of_words(block, 29) == word(block, 58);
     let h_ibsz = word(block, 0);
@@ -88,8 +88,8 @@ fn is_known_header(image: Image, header: Header, n: u64) -> bool {
 }
 
 /// The pointers of the index file, if they are right. Paper 01, "The volume": "Index file. Header 1
-/// lies at LBN H.IBLB + m. It must be whole, ID 1,1, segment 0, without extension (*house*). Its VBN
-/// 1 maps to LBN 0, VBN 2 to the home, VBN 3 to m+18 to H.IBLB onward."
+/// lies at LBN H.IBLB + m. It must be whole, ID 1,1, segment 0, without extension (*house*). Its
+/// VBN 1 maps to LBN 0, VBN 2 to the home, VBN 3 to m+18 to H.IBLB onward."
 fn index_pointers(image: Image, home: Home) -> Option<Vec<Pointer>> {
     let m = home.h_ibsz;
     let header = Header::of(image.block(Lbn(home.h_iblb + m)));
@@ -103,8 +103,8 @@ fn index_pointers(image: Image, home: Home) -> Option<Vec<Pointer>> {
     is_right.then_some(pointers)
 }
 
-/// Paper 01, "The volume": "maps exactly 1+q blocks, q = N/4096 rounded up, by one pointer, or by two
-/// of which the first maps one block".
+/// Paper 01, "The volume": "maps exactly 1+q blocks, q = N/4096 rounded up, by one pointer, or by
+/// two of which the first maps one block".
 fn maps_storage(pointers: &[Pointer], q: u64) -> bool {
     let by_one_or_two = match pointers {
         [_] => true,
@@ -114,8 +114,8 @@ fn maps_storage(pointers: &[Pointer], q: u64) -> bool {
     by_one_or_two && blocks_of(pointers) == 1 + q
 }
 
-/// Paper 01, "The volume": "Storage map file. Header 2, whole, ID 2,2, segment 0, no extension, maps
-/// exactly 1+q blocks, .. Byte 3 of its first block is q; the other bytes there are not read."
+/// Paper 01, "The volume": "Storage map file. Header 2, whole, ID 2,2, segment 0, no extension,
+/// maps exactly 1+q blocks, .. Byte 3 of its first block is q; the other bytes there are not read."
 fn storage_is_right(volume: &Volume) -> bool {
     let q = volume.image.blocks().div_ceil(MAP_BITS);
     let header = volume.slot(FileNumber(2));
@@ -147,7 +147,8 @@ pub fn open(bytes: &[u8]) -> Result<Volume<'_>, Number> {
     Ok(volume)
 }
 
-/// The call. Paper 01, "Answer numbers": "DONE has place 0 and as value the home LBN (open volume)".
+/// The call. Paper 01, "Answer numbers": "DONE has place 0 and as value the home LBN (open
+/// volume)".
 pub fn open_volume(bytes: &[u8]) -> Answer {
     match open(bytes) {
         Err(number) => Answer::refused(number),
@@ -168,7 +169,7 @@ pub enum BadLink {
 }
 
 impl<'a> Volume<'a> {
-    /// The image.
+    /// Paper 01, "The work and its edge": "The library works over a lent image of 512·N bytes".
     pub fn image(&self) -> Image<'a> {
         self.image
     }
@@ -186,9 +187,9 @@ impl<'a> Volume<'a> {
         Some(Header::of(self.image.block(lbn)))
     }
 
-    /// Paper 01, "The volume": "Number n, from 1 to H.FMAX only, is in use when index map bit n−1 is
-    /// set. Bit j is bit j mod 8 of byte j/8." The index map is at H.IBLB: "VBN 3 to m+18 to H.IBLB
-    /// onward".
+    /// Paper 01, "The volume": "Number n, from 1 to H.FMAX only, is in use when index map bit n−1
+    /// is set. Bit j is bit j mod 8 of byte j/8." The index map is at H.IBLB: "VBN 3 to m+18 to
+    /// H.IBLB onward".
     pub fn in_use(&self, n: FileNumber) -> bool {
         if !(1..=self.home.h_fmax).contains(&n.0) {
             return false;
@@ -211,9 +212,9 @@ impl<'a> Volume<'a> {
         }
     }
 
-    /// The header that a whole header links to, or none where the chain ends. Paper 01, "The header":
-    /// "*Good link* from a header: M.EFNU is 0, or names a number in use with a slot, whole, with
-    /// H.FSEQ = M.EFSQ and a segment number one higher."
+    /// The header that a whole header links to, or none where the chain ends. Paper 01, "The
+    /// header": "*Good link* from a header: M.EFNU is 0, or names a number in use with a slot,
+    /// whole, with H.FSEQ = M.EFSQ and a segment number one higher."
     pub fn next_header(&self, header: Header) -> Result<Option<Header<'a>>, BadLink> {
         if header.ends_chain() {
             return Ok(None);
@@ -228,8 +229,8 @@ impl<'a> Volume<'a> {
         }
     }
 
-    /// The headers of a chain, the first one included, if every link is good. Paper 01, "The header":
-    /// "A chain thus ends within 256 headers."
+    /// The headers of a chain, the first one included, if every link is good. Paper 01, "The
+    /// header": "A chain thus ends within 256 headers."
     pub fn chain(&self, first: Header<'a>) -> Result<Vec<Header<'a>>, BadLink> {
         let mut headers = vec![first];
         let mut last = first;

@@ -1,12 +1,13 @@
 //! Sound volumes of every shape, at random.
 
 use crate::block::{put_word, BLOCK_BYTES};
+use crate::directory::put_directories;
 use crate::header::{
     at, cut, pointers_of, Areas, Header, Pointer, DEACCESS_LOCKED, MARKED_FOR_DELETE, MOST_POINTERS,
 };
 use crate::random::Random;
-use crate::volume::{File, Plan, Record, Roles, Volume, BLOCK_RECORDS, FIRST_HEADERS};
-use model::names;
+use crate::space::Space;
+use crate::volume::{File, Plan, Roles, Volume, FIRST_HEADERS};
 
 /// How large a random volume is to be.
 #[derive(Clone, Copy, Debug, PartialEq, Eq)]
@@ -26,81 +27,6 @@ pub const RL02_BLOCKS: u32 = 20_480;
 
 /// The most blocks of a volume.
 pub const MOST_BLOCKS: u32 = 1_044_480;
-
-/// The blocks that are not taken yet.
-struct Space {
-    taken: Vec<bool>,
-}
-
-impl Space {
-    fn new(blocks: u32) -> Space {
-        Space {
-            taken: vec![false; blocks as usize],
-        }
-    }
-
-    /// Takes one block, which is free.
-    fn take(&mut self, lbn: u32) {
-        assert!(!self.taken[lbn as usize], "block {lbn} is taken twice");
-        self.taken[lbn as usize] = true;
-    }
-
-    /// How many blocks are free.
-    fn free(&self) -> u32 {
-        self.taken.iter().filter(|&&taken| !taken).count() as u32
-    }
-
-    /// The first start from `start` on of `count` free blocks in a row.
-    fn find_from(&self, start: u32, count: u32) -> Option<u32> {
-        let mut length = 0;
-        for lbn in start..self.taken.len() as u32 {
-            length = if self.taken[lbn as usize] {
-                0
-            } else {
-                length + 1
-            };
-            if length == count {
-                return Some(lbn + 1 - count);
-            }
-        }
-        None
-    }
-
-    /// Takes `count` blocks in a row at a start, which are free.
-    fn take_run_from(&mut self, start: u32, count: u32) -> u32 {
-        for lbn in start..start + count {
-            self.take(lbn);
-        }
-        start
-    }
-
-    /// Takes `count` blocks in a row somewhere, if there are any.
-    fn take_run(&mut self, random: &mut Random, count: u32) -> Option<u32> {
-        let from = random.below(self.taken.len() as u64) as u32;
-        let start = self.find_from(from, count);
-        let start = start.or_else(|| self.find_from(0, count))?;
-        Some(self.take_run_from(start, count))
-    }
-
-    /// Takes `count` blocks in runs of at most `longest`, or as many as there are.
-    fn take_blocks(&mut self, random: &mut Random, count: u32, longest: u32) -> Vec<u32> {
-        let mut lbns = Vec::new();
-        while (lbns.len() as u32) < count {
-            let wanted = random.long_between(1, longest.min(count - lbns.len() as u32));
-            let Some((start, length)) = self.take_run_or_less(random, wanted) else {
-                break;
-            };
-            lbns.extend(start..start + length);
-        }
-        lbns
-    }
-
-    /// Takes `count` blocks in a row, or else one block, if there is any.
-    fn take_run_or_less(&mut self, random: &mut Random, count: u32) -> Option<(u32, u32)> {
-        let start = self.take_run(random, count).map(|start| (start, count));
-        start.or_else(|| self.take_run(random, 1).map(|start| (start, 1)))
-    }
-}
 
 /// A random N.
 fn random_blocks(random: &mut Random, size: Size) -> u32 {
@@ -231,36 +157,44 @@ fn cut_some(random: &mut Random, pointers: &mut Vec<Pointer>) {
     }
 }
 
+/// The only header of a known file, with areas anywhere.
+fn known_header(random: &mut Random, number: u16, pointers: Vec<Pointer>) -> Header {
+    Header {
+        areas: Areas::random(random, pointers.len()),
+        ..Header::new(number, number, pointers)
+    }
+}
+
 /// The header of file 1.
 fn index_header(random: &mut Random, plan: &Plan) -> Header {
     let mut pointers = pointers_of(&plan.index_lbns());
     cut_some(random, &mut pointers);
-    let areas = Areas::random(random, pointers.len());
-    let mut header = Header::new(1, 1, pointers);
-    header.areas = areas;
-    header
+    known_header(random, 1, pointers)
 }
 
 /// The header of file 2: one pointer, or two of which the first maps one block.
 fn storage_header(random: &mut Random, plan: &Plan) -> Header {
     let mut pointers = pointers_of(&plan.storage_lbns());
-    let q = plan.storage_map_blocks();
-    if pointers.len() == 1 && q < 256 && random.once_in(2) {
-        pointers = vec![
-            Pointer {
-                lbn: plan.control,
-                blocks: 1,
-            },
-            Pointer {
-                lbn: plan.storage_map,
-                blocks: q,
-            },
-        ];
+    if pointers.len() == 1 && random.once_in(2) {
+        let control = Pointer {
+            lbn: plan.control,
+            blocks: 1,
+        };
+        let bits = Pointer {
+            lbn: plan.storage_map,
+            blocks: plan.storage_map_blocks(),
+        };
+        pointers = vec![control, bits];
     }
-    let areas = Areas::random(random, pointers.len());
-    let mut header = Header::new(2, 2, pointers);
-    header.areas = areas;
-    header
+    known_header(random, 2, pointers)
+}
+
+/// The header of file 3: the home positions passed over, and a block or two.
+fn bad_block_header(random: &mut Random, space: &mut Space, plan: &Plan) -> Header {
+    let mut lbns = passed_over(plan.blocks, plan.home);
+    let more = random.long_between(0, 2);
+    lbns.extend(space.take_blocks(random, more, 1));
+    known_header(random, 3, pointers_of(&lbns))
 }
 
 /// What a file that is to be made needs.
@@ -388,18 +322,6 @@ pub fn random_volume(random: &mut Random, size: Size) -> Volume {
     volume
 }
 
-/// The header of file 3: the home positions passed over, and a block or two.
-fn bad_block_header(random: &mut Random, space: &mut Space, plan: &Plan) -> Header {
-    let mut lbns = passed_over(plan.blocks, plan.home);
-    let more = random.long_between(0, 2);
-    lbns.extend(space.take_blocks(random, more, 1));
-    let pointers = pointers_of(&lbns);
-    let areas = Areas::random(random, pointers.len());
-    let mut header = Header::new(3, 3, pointers);
-    header.areas = areas;
-    header
-}
-
 /// Adds files 4 and 5, and one for each role; and more while there are numbers and space.
 fn add_files(random: &mut Random, space: &mut Space, numbers: &mut Vec<u16>, volume: &mut Volume) {
     let small = |headers, blocks| Wanted {
@@ -488,79 +410,6 @@ fn leave_old_headers(random: &mut Random, numbers: &[u16], volume: &mut Volume) 
             _ => (),
         }
     }
-}
-
-/// Names of records: some are there twice, and some files have one each.
-const NAMES: [&str; 8] = [
-    "READS.DAT;1",
-    "READS.DAT;2",
-    "READS.DAT;32767",
-    "A.;1",
-    "RATIO.CFG;3",
-    "999999999.999;9",
-    "INDEXF.SYS;1",
-    "BITMAP.SYS;1",
-];
-
-/// The words of a proper name's text.
-pub fn name_words(text: &str) -> [u16; 5] {
-    let name = names::name_of(text.as_bytes());
-    name.expect("a proper name").words()
-}
-
-/// Puts records into file 4 and into the directory: of files, old ones, double ones and wrong ones.
-fn put_directories(random: &mut Random, volume: &mut Volume) {
-    for directory in [4, volume.roles.directory] {
-        let blocks = volume.file(directory).blocks();
-        let clear: Vec<u32> = volume.file(directory).lbns();
-        for lbn in clear {
-            volume.block_mut(lbn).fill(0);
-        }
-        let places = blocks * BLOCK_RECORDS;
-        for place in 0..places {
-            if random.once_in(3) {
-                let record = random_record(random, volume);
-                volume.put_record(directory, place, record);
-            }
-        }
-        put_edges(random, volume, directory, places);
-    }
-}
-
-/// Puts a record at the first place and at the last, more often than by chance.
-fn put_edges(random: &mut Random, volume: &mut Volume, directory: u16, places: u32) {
-    for place in [0, places.saturating_sub(1)] {
-        if places > 0 && random.once_in(2) {
-            let record = random_record(random, volume);
-            volume.put_record(directory, place, record);
-        }
-    }
-}
-
-/// A random record: mostly one that names a file by its ID.
-fn random_record(random: &mut Random, volume: &Volume) -> Record {
-    let file = random.pick(&volume.files);
-    let mut id = file.id().words();
-    let text = *random.pick(&NAMES);
-    let mut name = name_words(text);
-    match random.below(10) {
-        // Old: the header has another sequence.
-        0 => id[1] = id[1].wrapping_sub(1),
-        1 => id[1] = random.word(),
-        // A third word, which is answered as it is stored.
-        2 => id[2] = random.word(),
-        // Empty, though it has a name.
-        3 => id[0] = 0,
-        // A name that no look-up may ask for.
-        4 => name[random.between(0, 3)] = *random.pick(&[29, 27, 1, 64_000, 65_535]),
-        5 => name[4] = *random.pick(&[0, 32_768, 65_535]),
-        6 => {
-            id = [random.word(), random.word(), random.word()];
-            name = [(); 5].map(|()| random.word());
-        }
-        _ => (),
-    }
-    Record { id, name }
 }
 
 #[cfg(test)]
