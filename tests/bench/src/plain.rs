@@ -434,3 +434,102 @@ fn find_record(image: &[u8], id: [u16; 3], place: u32) -> Option<(&[u8], u32)> {
     volume.each_header(id, each).ok()?;
     found
 }
+
+#[cfg(test)]
+mod tests {
+    use super::*;
+    use model::{directory, file, volume, Id, Name, Number, Vbn};
+    use volumes::accident::random_changes;
+    use volumes::damage::{damages, volumes_to_damage, Checksums};
+    use volumes::directory::name_words;
+    use volumes::shapes::{random_volume, Size};
+    use volumes::{Random, Volume};
+
+    /// How often each number was answered.
+    type Met = [u64; 29];
+
+    fn answer_of(met: &mut Met, call: impl FnOnce(&mut Answer)) -> Answer {
+        let mut answer = [u64::MAX; 12];
+        call(&mut answer);
+        met[answer[0] as usize] += 1;
+        answer
+    }
+
+    /// Sees that the calls on one file answer as the model does.
+    fn expect_file(met: &mut Met, image: &[u8], id: Id) {
+        let opened = file::open(image, id);
+        let words = id.words();
+        let answer = answer_of(met, |answer| open_file(image, words, answer));
+        assert_eq!(answer, file::answer_open(&opened).words());
+        let blocks = opened.as_ref().map_or(0, |file| file.blocks()) as u32;
+        for vbn in [0, 1, 2, blocks / 2, blocks, blocks + 1, u32::MAX] {
+            let answer = answer_of(met, |answer| map(image, words, vbn, answer));
+            assert_eq!(answer, file::answer_map(&opened, Vbn(vbn.into())).words());
+        }
+        for place in [0, 7, 31, 32, 33, 32 * blocks, u32::MAX] {
+            let answer = answer_of(met, |answer| next_record(image, words, place, answer));
+            let expected = directory::answer_next_record(&opened, place.into());
+            assert_eq!(answer, expected.words());
+        }
+        for name in [
+            name_words("READS.DAT;1"),
+            name_words("A.;1"),
+            name_words("ABSENT.;1"),
+            [0; 5],
+            [1_600, 0, 1_600, 0, 1],
+            [1_600, 0, 0, 64_000, 1],
+            [1_600, 0, 0, 0, 32_768],
+        ] {
+            let answer = answer_of(met, |answer| look_up(image, words, name, answer));
+            let expected = directory::answer_look_up(&opened, &Name::from_words(name));
+            assert_eq!(answer, expected.words());
+        }
+    }
+
+    /// Sees that all calls answer as the model does.
+    fn expect_image(met: &mut Met, sound: &Volume, image: &[u8]) {
+        let answer = answer_of(met, |answer| open_volume(image, answer));
+        assert_eq!(answer, volume::open_volume(image).words());
+        let roles = sound.roles;
+        for number in [1, roles.plain, roles.chained, roles.directory, roles.locked] {
+            let [number, sequence, _] = sound.file(number).id().words();
+            expect_file(met, image, Id::from_words([number, sequence, 0]));
+            for words in [[number, sequence ^ 1, 0], [number, sequence, 1]] {
+                let id = Id::from_words(words);
+                let answer = answer_of(met, |answer| open_file(image, words, answer));
+                assert_eq!(answer, file::open_file(image, id).words());
+            }
+        }
+    }
+
+    /// Sees that every answer of the reading calls was met.
+    fn expect_met(met: &Met) {
+        for number in Number::all().filter(|number| number.number() <= 15) {
+            let times = met[number.number() as usize];
+            assert!(times > 20, "{} {times} times", number.name());
+        }
+    }
+
+    #[test]
+    fn damaged_volumes_are_answered_as_by_the_model() {
+        let mut met = [0; 29];
+        let volumes = volumes_to_damage(11, 2);
+        for damage in damages() {
+            for sound in &volumes[..2] {
+                let mut damaged = sound.clone();
+                if damage.apply(&mut damaged, Checksums::PutRight).is_some() {
+                    expect_image(&mut met, sound, &damaged.image);
+                }
+            }
+        }
+        for seed in 0..500 {
+            let mut random = Random::new(seed);
+            let sound = random_volume(&mut random, Size::Small);
+            let mut damaged = sound.clone();
+            random_changes(&mut random, &mut damaged);
+            expect_image(&mut met, &sound, &damaged.image);
+            expect_image(&mut met, &sound, &damaged.image[1..]);
+        }
+        expect_met(&met);
+    }
+}
