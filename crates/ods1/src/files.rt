@@ -14,7 +14,13 @@ ghost use Rattle.ods1.specs.Reading.{idOf, openedFileWords, mappedWords,
 
 // How many blocks a file has.
 #[no_mangle]
-pub extern "C" fn ods1_open_file(image: &[u8], number: u16, sequence: u16, volume: u16, answer: &mut [u64; 12])
+pub extern "C" fn ods1_open_file(
+    image: &[u8],
+    number: u16,
+    sequence: u16,
+    volume: u16,
+    answer: &mut [u64; 12],
+)
     ensures { λ _. ⌜ now (answer .exit) ≡ openedFileWords (openAnswer (now (image .entry)) (idOf number sequence volume)) ⌝ }
 {
     let opened = open_file(
@@ -37,7 +43,14 @@ pub extern "C" fn ods1_open_file(image: &[u8], number: u16, sequence: u16, volum
 
 // The LBN of a file's VBN.
 #[no_mangle]
-pub extern "C" fn ods1_map(image: &[u8], number: u16, sequence: u16, volume: u16, vbn: u32, answer: &mut [u64; 12])
+pub extern "C" fn ods1_map(
+    image: &[u8],
+    number: u16,
+    sequence: u16,
+    volume: u16,
+    vbn: u32,
+    answer: &mut [u64; 12],
+)
     ensures { λ _. ⌜ now (answer .exit) ≡ mappedWords (mapAnswer (now (image .entry)) (idOf number sequence volume) vbn) ⌝ }
 {
     let mapped = map(
@@ -62,7 +75,14 @@ pub extern "C" fn ods1_map(image: &[u8], number: u16, sequence: u16, volume: u16
 
 // Where the block of a file's VBN begins in the image, and how many bytes it has.
 #[no_mangle]
-pub extern "C" fn ods1_block(image: &[u8], number: u16, sequence: u16, volume: u16, vbn: u32, answer: &mut [u64; 12])
+pub extern "C" fn ods1_block(
+    image: &[u8],
+    number: u16,
+    sequence: u16,
+    volume: u16,
+    vbn: u32,
+    answer: &mut [u64; 12],
+)
     ensures { λ _. ⌜ now (answer .exit) ≡ blockWords (mapAnswer (now (image .entry)) (idOf number sequence volume) vbn) ⌝ }
 {
     let mapped = map(
