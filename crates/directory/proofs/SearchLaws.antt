@@ -1,0 +1,93 @@
+-- Laws of a search among the records of some blocks.
+use mathlib.Core.Path.{_≡_, refl, sym, ap, _∙_}
+use mathlib.Core.List.{List, [], _∷_}
+use Prim.Native.Nat.{ℕ, _+_, _*_, _-_, _/_, _%_, min, _≤_, _<_}
+use native.Mathlib.Decide.{decLt}
+use native.Mathlib.Omega.{arith}
+use lib.ListN.{length, getD}
+use Rattle.image.specs.Blocks.{block}
+use Rattle.image.specs.First.{first}
+use Rattle.image.proofs.First.{first-has, first-none, first-found, first-past, first-shift, first-same}
+use Rattle.directory.specs.Records.{recordIn, entryOf, isWanted, entryAt, wantedAt}
+use Rattle.directory.specs.Search.{wantedIn, searchIn}
+use Rattle.directory.specs.declared.records.Wanted.{Wanted}
+
+-- The blocks of part stand in the list lbns from place k on.
+pub record Part (lbns : List ℕ) (k : ℕ) (part : List ℕ) : Type 0 where
+  pub inside : k + length part ≤ length lbns
+  pub each : (i : ℕ) → i < length part → getD lbns (k + i) 0 ≡ getD part i 0
+
+module _ (image lbns : List ℕ) (w : Wanted) (from to : ℕ) where
+  pub search-low : from ≤ searchIn image lbns w from to
+  unfolding searchIn
+  search-low = first-has (wantedAt image lbns w) from (min to (32 * length lbns) - from) .low
+
+  pub search-high : from ≤ to → searchIn image lbns w from to ≤ to
+  unfolding searchIn
+  search-high h = omega (arith, first-has (wantedAt image lbns w) from (min to (32 * length lbns) - from) .high)
+
+  -- Past the last record.
+  pub search-none : min to (32 * length lbns) ≤ from → searchIn image lbns w from to ≡ from
+  unfolding searchIn
+  search-none h = first-none (wantedAt image lbns w) from (min to (32 * length lbns)) h
+
+  -- All of the records are there.
+  pub search-all : to ≤ 32 * length lbns → searchIn image lbns w from to ≡ first (wantedAt image lbns w) from (to - from)
+  unfolding searchIn
+  search-all h =
+      let e : min to (32 * length lbns) ≡ to = omega arith in
+      rw e
+
+one-record : (image : List ℕ) (l : ℕ) (w : Wanted) (i : ℕ) → i < 32 → wantedAt image (l ∷ []) w i ≡ wantedIn (block image l) w i
+unfolding wantedAt entryAt wantedIn
+one-record image l w i h =
+    let q : i / 32 ≡ 0 = omega arith in
+    let r : i % 32 ≡ i = omega arith in
+    rw (q, r)
+
+-- One block.
+pub search-one : (image : List ℕ) (l : ℕ) (w : Wanted) (from to : ℕ) → searchIn image (l ∷ []) w from to ≡ first (wantedIn (block image l) w) from (min to 32 - from)
+unfolding searchIn
+search-one image l w from to = first-same (wantedAt image (l ∷ []) w) (wantedIn (block image l) w) from (min to 32 - from) (λ i a b. same i (omega arith))
+  where
+    same : (i : ℕ) → i < 32 → wantedAt image (l ∷ []) w i ≡ wantedIn (block image l) w i
+    same i h = one-record image l w i h
+
+-- A search from a place that has come to a part, which begins at record start: it finds r in the part, counted from there.
+module _ (image lbns : List ℕ) (k : ℕ) (part : List ℕ) (p : Part lbns k part) (w : Wanted) (from to start r : ℕ)
+    (begins : start ≡ 32 * k) (reached : start ≤ from) (found : r ≡ searchIn image part w (from - start) (to - start)) where
+  -- A record of the part.
+  wanted-part : (i : ℕ) → i < 32 * length part → wantedAt image lbns w (start + i) ≡ wantedAt image part w i
+  unfolding wantedAt entryAt
+  wanted-part i h =
+      let q : (start + i) / 32 ≡ k + i / 32 = omega arith in
+      let m : (start + i) % 32 ≡ i % 32 = omega arith in
+      rw (q, m, p .each (i / 32) (omega arith))
+
+  -- The records of the part, in the list.
+  part-first : start + r ≡ first (wantedAt image lbns w) from (min to (start + 32 * length part) - from)
+  unfolding searchIn
+  part-first =
+      let d : min (to - start) (32 * length part) - (from - start) ≡ min to (start + 32 * length part) - from = omega arith in
+      let e : start + (from - start) ≡ from = omega arith in
+      rw (found, d, ← first-shift (wantedAt image part w) (wantedAt image lbns w) start (from - start) (min to (start + 32 * length part) - from) (λ i a b. wanted-part i (omega arith)), e)
+
+  -- It is found there, or what is searched ends there.
+  pub search-here : r < 32 * length part → searchIn image lbns w from to ≡ start + r
+  unfolding searchIn
+  search-here h = go (decLt (start + r) (min to (start + 32 * length part)))
+    where
+      go : Dec (start + r < min to (start + 32 * length part)) → first (wantedAt image lbns w) from (min to (32 * length lbns) - from) ≡ start + r
+      go (yes l) =
+          first-found (wantedAt image lbns w) from (min to (start + 32 * length part)) (min to (32 * length lbns)) (omega (arith, p .inside)) (omega (arith, part-first))
+          ∙ sym part-first
+      go (no l) =
+          let e : min to (32 * length lbns) ≡ min to (start + 32 * length part) = omega (arith, p .inside) in
+          rw e (sym part-first)
+
+  -- It is not, and the search goes on behind the part.
+  pub search-on : 32 * length part ≤ r → searchIn image lbns w from to ≡ searchIn image lbns w (start + r) to
+  unfolding searchIn
+  search-on h =
+      rw part-first
+      (first-past (wantedAt image lbns w) from (min to (start + 32 * length part)) (min to (32 * length lbns)) (omega (arith, p .inside)) (omega (arith, part-first)))

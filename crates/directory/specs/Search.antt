@@ -1,0 +1,17 @@
+-- A search among the records of some blocks.
+use mathlib.Core.Bool.{Bool}
+use mathlib.Core.List.{List}
+use Prim.Native.Nat.{ℕ, _*_, _-_, min}
+use lib.ListN.{length}
+use Rattle.image.specs.First.{first}
+use Rattle.directory.specs.Records.{recordIn, entryOf, isWanted, wantedAt}
+use Rattle.directory.specs.declared.records.Wanted.{Wanted}
+
+-- Record i of a block is wanted.
+unfoldable pub wantedIn : List ℕ → Wanted → ℕ → Bool
+wantedIn b w i = isWanted w (entryOf (recordIn b i))
+
+-- The first record wanted of those, from one place to before another, that the blocks in a list of LBNs hold; where there is none, the place
+-- where these end.
+unfoldable pub searchIn : List ℕ → List ℕ → Wanted → ℕ → ℕ → ℕ
+searchIn image lbns w from to = first (wantedAt image lbns w) from (min to (32 * length lbns) - from)
