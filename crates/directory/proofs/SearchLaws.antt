@@ -4,7 +4,10 @@ use mathlib.Core.List.{List, [], _∷_}
 use Prim.Native.Nat.{ℕ, _+_, _*_, _-_, _/_, _%_, min, _≤_, _<_}
 use native.Mathlib.Decide.{decLt}
 use native.Mathlib.Omega.{arith}
+use native.Mathlib.Nat.{add-zero}
 use lib.ListN.{length, getD}
+use Rattle.image.specs.Stores.{numbersFrom}
+use Rattle.image.proofs.Numbers.{numbersFrom-length, numbersFrom-at}
 use Rattle.image.specs.Blocks.{block}
 use Rattle.image.specs.First.{first}
 use Rattle.image.proofs.First.{first-has, first-none, first-found, first-past, first-shift, first-same}
@@ -18,13 +21,12 @@ pub record Part (lbns : List ℕ) (k : ℕ) (part : List ℕ) : Type 0 where
   pub each : (i : ℕ) → i < length part → getD lbns (k + i) 0 ≡ getD part i 0
 
 module _ (image lbns : List ℕ) (w : Wanted) (from to : ℕ) where
-  pub search-low : from ≤ searchIn image lbns w from to
+  -- A search ends between the two places.
+  pub search-range : from ≤ to → (r : ℕ) → r ≡ searchIn image lbns w from to → (r ≡ searchIn image lbns w from to) × (from ≤ r) × (r ≤ to)
   unfolding searchIn
-  search-low = first-has (wantedAt image lbns w) from (min to (32 * length lbns) - from) .low
-
-  pub search-high : from ≤ to → searchIn image lbns w from to ≤ to
-  unfolding searchIn
-  search-high h = omega (arith, first-has (wantedAt image lbns w) from (min to (32 * length lbns) - from) .high)
+  search-range h r e =
+      let q = first-has (wantedAt image lbns w) from (min to (32 * length lbns) - from) in
+      (e, omega (arith, e, q .low), omega (arith, e, q .high))
 
   -- Past the last record.
   pub search-none : min to (32 * length lbns) ≤ from → searchIn image lbns w from to ≡ from
@@ -52,6 +54,13 @@ search-one image l w from to = first-same (wantedAt image (l ∷ []) w) (wantedI
   where
     same : (i : ℕ) → i < 32 → wantedAt image (l ∷ []) w i ≡ wantedIn (block image l) w i
     same i h = one-record image l w i h
+
+-- A block of a run.
+pub run-part : (lbn count k : ℕ) → k < count → Part (numbersFrom lbn count) k ((lbn + k) ∷ [])
+run-part lbn count k h = record { inside = omega (arith, numbersFrom-length lbn count); each = λ i l. at i (omega arith) }
+  where
+    at : (i : ℕ) → i ≡ 0 → getD (numbersFrom lbn count) (k + i) 0 ≡ getD ((lbn + k) ∷ []) i 0
+    at i e = rw (e, add-zero k) (numbersFrom-at lbn count k h)
 
 -- A search from a place that has come to a part, which begins at record start: it finds r in the part, counted from there.
 module _ (image lbns : List ℕ) (k : ℕ) (part : List ℕ) (p : Part lbns k part) (w : Wanted) (from to start r : ℕ)

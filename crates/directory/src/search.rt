@@ -1,0 +1,41 @@
+// Searching the records of blocks: of one, of a run, of a header, of a file. Each search takes two places, and looks at the records from the
+// first to before the second; blocks before the first are stepped over unread. A place counts records from 0, in VBN order.
+use crate::records::Wanted;
+use crate::records::first_in_block;
+use image::blocks::block;
+ghost use mathlib.Core.Path.{_≡_};
+ghost use mathlib.Core.List.{[], _∷_};
+ghost use Prim.Native.Nat.{_+_, _*_, _^_, _≤_, _<_};
+ghost use lib.ListN.{length};
+ghost use Rattle.image.specs.Stores.{numbersFrom};
+ghost use Rattle.directory.specs.Search.{searchIn};
+
+// One block, by its LBN.
+fn search_block(image: &[u8], lbn: u32, from: u32, to: u32, w: Wanted) -> u32
+    requires { ⌜ (512 * lbn + 512 ≤ length (now image)) × (from < 32) × (from ≤ to) ⌝ }
+    ensures { λ r. ⌜ (r ≡ searchIn (now (image .entry)) (lbn ∷ []) w from to) × (from ≤ r) × (r ≤ to) ⌝ }
+{
+    let b = block(image, lbn);
+    if to < 32 {
+        return first_in_block(b, from, to, w);
+    }
+    first_in_block(b, from, 32, w)
+}
+
+// A run of blocks, as one retrieval pointer covers it.
+fn search_run(image: &[u8], lbn: u32, count: u32, from: u32, to: u32, w: Wanted) -> u32
+    requires { ⌜ (512 * (lbn + count) ≤ length (now image)) × (lbn < 2 ^ 24) × (count ≤ 256) × (from ≤ to) ⌝ }
+    ensures { λ r. ⌜ (r ≡ searchIn (now (image .entry)) (numbersFrom lbn count) w from to) × (from ≤ r) × (r ≤ to) ⌝ }
+{
+    let mut place = from;
+    while place < 32 * count {
+        let k = place / 32;
+        let start = 32 * k;
+        let r = search_block(image, lbn + k, place - start, to - start, w);
+        if r < 32 {
+            return start + r;
+        }
+        place = start + r;
+    }
+    place
+}
