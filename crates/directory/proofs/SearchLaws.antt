@@ -1,16 +1,23 @@
 -- Laws of a search among the records of some blocks.
 use mathlib.Core.Path.{_≡_, refl, sym, ap, _∙_}
+use mathlib.Core.Bool.{true}
 use mathlib.Core.List.{List, [], _∷_}
 use Prim.Native.Nat.{ℕ, _+_, _*_, _-_, _/_, _%_, min, _≤_, _<_}
 use native.Mathlib.Decide.{decLt}
 use native.Mathlib.Omega.{arith}
 use native.Mathlib.Nat.{add-zero}
+use borrow.Author.Tests.{leb-true}
 use lib.ListN.{length, getD}
 use Rattle.image.specs.Stores.{numbersFrom}
 use Rattle.image.proofs.Numbers.{numbersFrom-length, numbersFrom-at}
 use Rattle.image.specs.Blocks.{block}
-use Rattle.image.specs.First.{first}
+use Rattle.image.specs.First.{first, below}
+use Rattle.image.proofs.Below.{below-at}
 use Rattle.image.proofs.First.{first-has, first-none, first-found, first-past, first-shift, first-same}
+use Rattle.header.specs.Pointers.{pointerLbn, pointerCount, runs, pointersAt, pointers, blocksOf}
+use Rattle.header.specs.Whole.{endsInside}
+use Rattle.volume.specs.Home.{blocks}
+use Rattle.header.proofs.PointerLaws.{runs-none, runs-length, runs-le, runs-at}
 use Rattle.directory.specs.Records.{recordIn, entryOf, isWanted, entryAt, wantedAt}
 use Rattle.directory.specs.Search.{wantedIn, searchIn}
 use Rattle.directory.specs.declared.records.Wanted.{Wanted}
@@ -62,9 +69,37 @@ run-part lbn count k h = record { inside = omega (arith, numbersFrom-length lbn 
     at : (i : ℕ) → i ≡ 0 → getD (numbersFrom lbn count) (k + i) 0 ≡ getD ((lbn + k) ∷ []) i 0
     at i e = rw (e, add-zero k) (numbersFrom-at lbn count k h)
 
--- A search from a place that has come to a part, which begins at record start: it finds r in the part, counted from there.
+-- The blocks of a pointer.
+pub pointer-part : (h : List ℕ) (at p n : ℕ) → p < n → Part (runs h at n) (length (runs h at p)) (numbersFrom (pointerLbn h (at + 4 * p)) (pointerCount h (at + 4 * p)))
+pointer-part h at p n l = record {
+  inside = omega (arith, numbersFrom-length lbn count, runs-length h at p, runs-le h at (p + 1) n (omega arith));
+  each = λ i m. let few : i < count = omega (arith, numbersFrom-length lbn count) in runs-at h at p n i l few ∙ sym (numbersFrom-at lbn count i few);
+}
+  where
+    lbn : ℕ
+    lbn = pointerLbn h (at + 4 * p)
+
+    count : ℕ
+    count = pointerCount h (at + 4 * p)
+
+-- A pointer that ends below N lies in the image.
+pub pointer-inside :
+  (image h : List ℕ) (at p : ℕ) → below (pointers h) (endsInside (blocks image) h) ≡ true → at ≡ pointersAt h → p < pointers h
+  → 512 * (pointerLbn h (at + 4 * p) + pointerCount h (at + 4 * p)) ≤ length image
+unfolding endsInside blocks
+pointer-inside image h at p ends e l =
+    let last = pointerLbn h (pointersAt h + 4 * p) + pointerCount h (pointersAt h + 4 * p) in
+    rw e (omega (arith, leb-true last (length image / 512) (below-at (pointers h) (endsInside (blocks image) h) ends p l)))
+
+-- A search that has come to a part of so many blocks, which begins at record start: it finds r in the part, counted from there.
+pub record Turn (image lbns : List ℕ) (w : Wanted) (from to start size r : ℕ) : Type 0 where
+  -- The record is found there, or what is searched ends there.
+  pub here : r < 32 * size → searchIn image lbns w from to ≡ start + r
+  -- It is not, and the search goes on behind the part.
+  pub on : 32 * size ≤ r → searchIn image lbns w from to ≡ searchIn image lbns w (start + r) to
+
 module _ (image lbns : List ℕ) (k : ℕ) (part : List ℕ) (p : Part lbns k part) (w : Wanted) (from to start r : ℕ)
-    (begins : start ≡ 32 * k) (reached : start ≤ from) (found : r ≡ searchIn image part w (from - start) (to - start)) where
+  (begins : start ≡ 32 * k) (reached : start ≤ from) (found : r ≡ searchIn image part w (from - start) (to - start)) where
   -- A record of the part.
   wanted-part : (i : ℕ) → i < 32 * length part → wantedAt image lbns w (start + i) ≡ wantedAt image part w i
   unfolding wantedAt entryAt
@@ -81,10 +116,9 @@ module _ (image lbns : List ℕ) (k : ℕ) (part : List ℕ) (p : Part lbns k pa
       let e : start + (from - start) ≡ from = omega arith in
       rw (found, d, ← first-shift (wantedAt image part w) (wantedAt image lbns w) start (from - start) (min to (start + 32 * length part) - from) (λ i a b. wanted-part i (omega arith)), e)
 
-  -- It is found there, or what is searched ends there.
-  pub search-here : r < 32 * length part → searchIn image lbns w from to ≡ start + r
+  found-here : r < 32 * length part → searchIn image lbns w from to ≡ start + r
   unfolding searchIn
-  search-here h = go (decLt (start + r) (min to (start + 32 * length part)))
+  found-here h = go (decLt (start + r) (min to (start + 32 * length part)))
     where
       go : Dec (start + r < min to (start + 32 * length part)) → first (wantedAt image lbns w) from (min to (32 * length lbns) - from) ≡ start + r
       go (yes l) =
@@ -94,9 +128,11 @@ module _ (image lbns : List ℕ) (k : ℕ) (part : List ℕ) (p : Part lbns k pa
           let e : min to (32 * length lbns) ≡ min to (start + 32 * length part) = omega (arith, p .inside) in
           rw e (sym part-first)
 
-  -- It is not, and the search goes on behind the part.
-  pub search-on : 32 * length part ≤ r → searchIn image lbns w from to ≡ searchIn image lbns w (start + r) to
+  goes-on : 32 * length part ≤ r → searchIn image lbns w from to ≡ searchIn image lbns w (start + r) to
   unfolding searchIn
-  search-on h =
+  goes-on h =
       rw part-first
       (first-past (wantedAt image lbns w) from (min to (start + 32 * length part)) (min to (32 * length lbns)) (omega (arith, p .inside)) (omega (arith, part-first)))
+
+  pub search-turn : (size : ℕ) → length part ≡ size → Turn image lbns w from to start size r
+  search-turn size e = record { here = λ h. found-here (omega arith); on = λ h. goes-on (omega arith) }

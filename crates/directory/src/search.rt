@@ -2,12 +2,21 @@
 // first to before the second; blocks before the first are stepped over unread. A place counts records from 0, in VBN order.
 use crate::records::Wanted;
 use crate::records::first_in_block;
+use header::pointers::first_pointer;
+use header::pointers::pointer_count;
+use header::pointers::pointer_lbn;
+use header::pointers::pointer_number;
 use image::blocks::block;
 ghost use mathlib.Core.Path.{_≡_};
+ghost use mathlib.Core.Bool.{true};
 ghost use mathlib.Core.List.{[], _∷_};
 ghost use Prim.Native.Nat.{_+_, _*_, _^_, _≤_, _<_};
 ghost use lib.ListN.{length};
 ghost use Rattle.image.specs.Stores.{numbersFrom};
+ghost use Rattle.image.specs.First.{below};
+ghost use Rattle.header.specs.Pointers.{pointers, Fits, blocksOf};
+ghost use Rattle.header.specs.Whole.{endsInside};
+ghost use Rattle.volume.specs.Home.{blocks};
 ghost use Rattle.directory.specs.Search.{searchIn};
 
 // One block, by its LBN.
@@ -36,6 +45,30 @@ fn search_run(image: &[u8], lbn: u32, count: u32, from: u32, to: u32, w: Wanted)
             return start + r;
         }
         place = start + r;
+    }
+    place
+}
+
+// The blocks that a header covers.
+fn search_header(image: &[u8], h: &[u8], from: u32, to: u32, w: Wanted) -> u32
+    requires { ⌜ Fits (now h) × (below (pointers (now h)) (endsInside (blocks (now image)) (now h)) ≡ true) × (from ≤ to) ⌝ }
+    ensures { λ r. ⌜ (r ≡ searchIn (now (image .entry)) (blocksOf (now (h .entry))) w from to) × (from ≤ r) × (r ≤ to) ⌝ }
+{
+    let first = first_pointer(h);
+    let number = pointer_number(h);
+    let mut place = from;
+    let mut start: u32 = 0;
+    let mut p: usize = 0;
+    while p < number {
+        let lbn = pointer_lbn(h, first + 4 * p);
+        let count = pointer_count(h, first + 4 * p);
+        let r = search_run(image, lbn, count, place - start, to - start, w);
+        if r < 32 * count {
+            return start + r;
+        }
+        place = start + r;
+        start += 32 * count;
+        p += 1;
     }
     place
 }
