@@ -1,7 +1,7 @@
 -- A header's retrieval pointers, and the blocks that they cover.
 use mathlib.Core.Bool.{cond}
 use mathlib.Core.List.{List, [], _++_}
-use Prim.Native.Nat.{ℕ, zero, suc, _+_, _*_, _-_, _/_}
+use Prim.Native.Nat.{ℕ, zero, suc, _+_, _*_, _-_, _/_, _≤_}
 use lib.Dec.{ltb}
 use lib.ListN.{length, getD}
 use Rattle.image.specs.Words.{byteAt, wordAt}
@@ -34,6 +34,10 @@ pointersAt h = mapArea h + 10
 -- How many pointers are in use. M.USE counts their words, and a pointer has two.
 unfoldable pub pointers : List ℕ → ℕ
 pointers h = mUse h / 2
+
+-- The pointers in use lie in the header.
+abbrev pub Fits : List ℕ → Type 0
+Fits h = pointersAt h + 4 * pointers h ≤ length h
 
 -- The LBNs that a header covers. 01, The header: "VBNs run through its pointers in order."
 unfoldable pub blocksOf : List ℕ → List ℕ

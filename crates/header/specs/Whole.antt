@@ -14,8 +14,11 @@ use Rattle.header.specs.Pointers.{pointerLbn, pointerCount, pointersAt, 
 unfoldable pub endsInside : ℕ → List ℕ → ℕ → Bool
 endsInside blocks h p = leb (pointerLbn h (pointersAt h + 4 * p) + pointerCount h (pointersAt h + 4 * p)) blocks
 
--- 01, The header: "H.MPOF+5+M.MAX ≤ 255; M.USE even and ≤ M.MAX; M.CTSZ 1, M.LBSZ 3, M.ERVN 0; M.EFSQ 0 where M.EFNU is 0; each pointer ends
--- below N." The tests 6 to 12, on the map area.
+-- 01, The header: "M.EFSQ 0 where M.EFNU is 0; each pointer ends below N." The tests 11 and 12, on the map area.
+unfoldable pub linkTests : ℕ → List ℕ → List Bool
+linkTests blocks h = (not (eqb (mEfnu h) 0) || eqb (mEfsq h) 0) ∷ below (pointers h) (endsInside blocks h) ∷ []
+
+-- 01, The header: "H.MPOF+5+M.MAX ≤ 255; M.USE even and ≤ M.MAX; M.CTSZ 1, M.LBSZ 3, M.ERVN 0; ..". The tests 6 to 12, on the map area.
 unfoldable pub mapTests : ℕ → List ℕ → List Bool
 mapTests blocks h =
     leb (hMpof h + 5 + mMax h) 255
@@ -23,9 +26,7 @@ mapTests blocks h =
     ∷ eqb (mCtsz h) 1
     ∷ eqb (mLbsz h) 3
     ∷ eqb (mErvn h) 0
-    ∷ (not (eqb (mEfnu h) 0) || eqb (mEfsq h) 0)
-    ∷ below (pointers h) (endsInside blocks h)
-    ∷ []
+    ∷ linkTests blocks h
 
 -- 01, The header: "Whole for n: checksum right; H.FLEV 257; H.FNUM n; H.IDOF ≥ 23; H.MPOF ≥ H.IDOF; ..". The twelve tests, in this order.
 unfoldable pub tests : ℕ → ℕ → List ℕ → List Bool

@@ -1,0 +1,19 @@
+-- The byte at the field's place in the map area.
+use borrow.Author.Needs.{needs}
+use Rattle.header.specs.Fields.{hMpof, mapArea, segment}
+use Rattle.header.proofs.fields.segment.Statement.{statement}
+use Rattle.header.proofs.fields.segment.Tie as tie
+
+returns : tie.Need-returns
+unfolding segment mapArea hMpof
+returns c = cc
+
+pub segment-spec : {M : Type 1} → statement M
+segment-spec =
+    tie.close
+    (tie.spec
+    (search needs)
+    (search needs)
+    (search needs)
+    (search needs)
+    returns)
