@@ -1,5 +1,5 @@
 -- Laws of a record: its words are words of the block.
-use mathlib.Core.Path.{_≡_, refl, ap, _∙_}
+use mathlib.Core.Path.{_≡_, ap, _∙_}
 use mathlib.Core.Bool.{not, _&&_}
 use mathlib.Core.List.{List}
 use Prim.Native.Nat.{ℕ, _+_, _*_, _<_}
@@ -13,7 +13,6 @@ use Rattle.image.proofs.WordLaws.{word-same}
 use Rattle.answer.specs.declared.types.Name.{Name}
 use Rattle.directory.specs.Records.{recordIn, entryOf, isEmpty, sameName, isWanted}
 use Rattle.directory.specs.Search.{wantedIn}
-use Rattle.directory.specs.declared.records.Entry.{Entry}
 use Rattle.directory.specs.declared.records.Wanted.the-variants.{Any, Named}
 
 module _ (b : List ℕ) (i : ℕ) where

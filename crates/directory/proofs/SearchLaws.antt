@@ -1,25 +1,21 @@
 -- Laws of a search among the records of some blocks.
-use mathlib.Core.Path.{_≡_, refl, sym, ap, _∙_}
-use mathlib.Core.Bool.{true}
+use mathlib.Core.Path.{_≡_, sym, _∙_}
 use mathlib.Core.List.{List, [], _∷_}
 use Prim.Native.Nat.{ℕ, _+_, _*_, _-_, _/_, _%_, min, _≤_, _<_}
 use native.Mathlib.Decide.{decLt}
 use native.Mathlib.Omega.{arith}
 use native.Mathlib.Nat.{add-zero}
-use borrow.Author.Tests.{leb-true}
 use lib.ListN.{length, getD}
 use Rattle.image.specs.Stores.{numbersFrom}
 use Rattle.image.proofs.Numbers.{numbersFrom-length, numbersFrom-at}
 use Rattle.image.specs.Blocks.{block}
-use Rattle.image.specs.First.{first, below}
-use Rattle.image.proofs.Below.{below-at}
+use Rattle.image.specs.First.{first}
 use Rattle.image.proofs.First.{first-has, first-none, first-found, first-past, first-shift, first-same}
-use Rattle.header.specs.Pointers.{pointerLbn, pointerCount, runs, pointersAt, pointers, blocksOf}
-use Rattle.header.specs.Whole.{endsInside}
+use Rattle.header.specs.Pointers.{pointerLbn, pointerCount, runs, pointersAt, pointers}
 use Rattle.volume.specs.Home.{blocks}
-use Rattle.header.proofs.PointerLaws.{runs-none, runs-length, runs-le, runs-at}
-use Rattle.directory.specs.Records.{recordIn, entryOf, isWanted, entryAt, wantedAt}
-use Rattle.directory.specs.Search.{wantedIn, searchIn}
+use Rattle.header.proofs.PointerLaws.{runs-length, runs-le, runs-at}
+use Rattle.directory.specs.Records.{entryAt, wantedAt}
+use Rattle.directory.specs.Search.{wantedIn, searchIn, Inside}
 use Rattle.directory.specs.declared.records.Wanted.{Wanted}
 
 -- The blocks of part stand in the list lbns from place k on.
@@ -82,14 +78,9 @@ pointer-part h at p n l = record {
     count : ℕ
     count = pointerCount h (at + 4 * p)
 
--- A pointer that ends below N lies in the image.
-pub pointer-inside :
-  (image h : List ℕ) (at p : ℕ) → below (pointers h) (endsInside (blocks image) h) ≡ true → at ≡ pointersAt h → p < pointers h
-  → 512 * (pointerLbn h (at + 4 * p) + pointerCount h (at + 4 * p)) ≤ length image
-unfolding endsInside blocks
-pointer-inside image h at p ends e l =
-    let last = pointerLbn h (pointersAt h + 4 * p) + pointerCount h (pointersAt h + 4 * p) in
-    rw e (omega (arith, leb-true last (length image / 512) (below-at (pointers h) (endsInside (blocks image) h) ends p l)))
+pub pointer-inside : (image h : List ℕ) (at p : ℕ) → Inside image h → at ≡ pointersAt h → p < pointers h → 512 * (pointerLbn h (at + 4 * p) + pointerCount h (at + 4 * p)) ≤ length image
+unfolding blocks
+pointer-inside image h at p inside e l = rw e (omega (arith, inside p l))
 
 -- A search that has come to a part of so many blocks, which begins at record start: it finds r in the part, counted from there.
 pub record Turn (image lbns : List ℕ) (w : Wanted) (from to start size r : ℕ) : Type 0 where
@@ -99,7 +90,7 @@ pub record Turn (image lbns : List ℕ) (w : Wanted) (from to start size r : ℕ
   pub on : 32 * size ≤ r → searchIn image lbns w from to ≡ searchIn image lbns w (start + r) to
 
 module _ (image lbns : List ℕ) (k : ℕ) (part : List ℕ) (p : Part lbns k part) (w : Wanted) (from to start r : ℕ)
-  (begins : start ≡ 32 * k) (reached : start ≤ from) (found : r ≡ searchIn image part w (from - start) (to - start)) where
+    (begins : start ≡ 32 * k) (reached : start ≤ from) (found : r ≡ searchIn image part w (from - start) (to - start)) where
   -- A record of the part.
   wanted-part : (i : ℕ) → i < 32 * length part → wantedAt image lbns w (start + i) ≡ wantedAt image part w i
   unfolding wantedAt entryAt

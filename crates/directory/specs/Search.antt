@@ -1,9 +1,11 @@
 -- A search among the records of some blocks.
 use mathlib.Core.Bool.{Bool}
 use mathlib.Core.List.{List}
-use Prim.Native.Nat.{ℕ, _*_, _-_, min}
+use Prim.Native.Nat.{ℕ, _+_, _*_, _-_, min, _≤_, _<_}
 use lib.ListN.{length}
 use Rattle.image.specs.First.{first}
+use Rattle.header.specs.Pointers.{pointerLbn, pointerCount, pointersAt, pointers}
+use Rattle.volume.specs.Home.{blocks}
 use Rattle.directory.specs.Records.{recordIn, entryOf, isWanted, wantedAt}
 use Rattle.directory.specs.declared.records.Wanted.{Wanted}
 
@@ -15,3 +17,7 @@ wantedIn b w i = isWanted w (entryOf (recordIn b i))
 -- where these end.
 unfoldable pub searchIn : List ℕ → List ℕ → Wanted → ℕ → ℕ → ℕ
 searchIn image lbns w from to = first (wantedAt image lbns w) from (min to (32 * length lbns) - from)
+
+-- 01, The header: "each pointer ends below N". The blocks of header h lie in the image.
+abbrev pub Inside : List ℕ → List ℕ → Type 0
+Inside image h = (p : ℕ) → p < pointers h → pointerLbn h (pointersAt h + 4 * p) + pointerCount h (pointersAt h + 4 * p) ≤ blocks image

@@ -8,16 +8,12 @@ use header::pointers::pointer_lbn;
 use header::pointers::pointer_number;
 use image::blocks::block;
 ghost use mathlib.Core.Path.{_≡_};
-ghost use mathlib.Core.Bool.{true};
 ghost use mathlib.Core.List.{[], _∷_};
 ghost use Prim.Native.Nat.{_+_, _*_, _^_, _≤_, _<_};
 ghost use lib.ListN.{length};
 ghost use Rattle.image.specs.Stores.{numbersFrom};
-ghost use Rattle.image.specs.First.{below};
-ghost use Rattle.header.specs.Pointers.{pointers, Fits, blocksOf};
-ghost use Rattle.header.specs.Whole.{endsInside};
-ghost use Rattle.volume.specs.Home.{blocks};
-ghost use Rattle.directory.specs.Search.{searchIn};
+ghost use Rattle.header.specs.Pointers.{Fits, blocksOf};
+ghost use Rattle.directory.specs.Search.{searchIn, Inside};
 
 // One block, by its LBN.
 fn search_block(image: &[u8], lbn: u32, from: u32, to: u32, w: Wanted) -> u32
@@ -51,7 +47,7 @@ fn search_run(image: &[u8], lbn: u32, count: u32, from: u32, to: u32, w: Wanted)
 
 // The blocks that a header covers.
 fn search_header(image: &[u8], h: &[u8], from: u32, to: u32, w: Wanted) -> u32
-    requires { ⌜ Fits (now h) × (below (pointers (now h)) (endsInside (blocks (now image)) (now h)) ≡ true) × (from ≤ to) ⌝ }
+    requires { ⌜ Fits (now h) × Inside (now image) (now h) × (from ≤ to) ⌝ }
     ensures { λ r. ⌜ (r ≡ searchIn (now (image .entry)) (blocksOf (now (h .entry))) w from to) × (from ≤ r) × (r ≤ to) ⌝ }
 {
     let first = first_pointer(h);

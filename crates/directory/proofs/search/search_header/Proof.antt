@@ -5,7 +5,6 @@ use Prim.Native.Nat.{_+_, _*_, _-_, _≤_}
 use native.Mathlib.Omega.{arith}
 use denote.Ref.{now}
 use lib.ListN.{length}
-use Rattle.image.specs.Stores.{numbersFrom}
 use Rattle.image.proofs.Numbers.{numbersFrom-length}
 use Rattle.header.specs.Pointers.{pointerLbn, pointerCount, runs, blocksOf}
 use Rattle.header.proofs.PointerLaws.{runs-none, runs-length}
