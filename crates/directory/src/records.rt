@@ -25,7 +25,7 @@ pub enum Wanted {
 }
 
 // The entry in record i of a block.
-pub fn entry_at(b: &[u8], i: u32) -> Entry
+pub(crate) fn entry_at(b: &[u8], i: u32) -> Entry
     requires { ⌜ (length (now b) ≡ 512) × (i < 32) ⌝ }
     ensures { λ r. ⌜ r ≡ entryOf (recordIn (now (b .entry)) i) ⌝ }
 {
@@ -111,7 +111,7 @@ fn first_named(b: &[u8], from: u32, to: u32, name: Name) -> u32
 }
 
 // The first that is wanted.
-pub fn first_in_block(b: &[u8], from: u32, to: u32, w: Wanted) -> u32
+pub(crate) fn first_in_block(b: &[u8], from: u32, to: u32, w: Wanted) -> u32
     requires { ⌜ (length (now b) ≡ 512) × (from ≤ to) × (to ≤ 32) ⌝ }
     ensures { λ r. ⌜ r ≡ first (wantedIn (now (b .entry)) w) from (to - from) ⌝ }
 {

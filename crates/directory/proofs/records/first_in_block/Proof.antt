@@ -11,5 +11,4 @@ returns-2 c = rw (c .before .before .w .given .1) (c .first-named .ensures)
 
 pub first-in-block-spec : {M : Type 1} → statement M
 first-in-block-spec =
-    tie.close
-    (tie.spec (search needs) (search needs) (search needs) (search needs) returns returns-2)
+    tie.close (tie.spec (search needs) (search needs) (search needs) (search needs) returns returns-2)

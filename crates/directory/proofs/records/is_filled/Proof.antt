@@ -6,7 +6,8 @@ use Rattle.directory.proofs.records.is_filled.Statement.{statement}
 use Rattle.directory.proofs.records.is_filled.Tie as tie
 
 returns : tie.Need-returns
-returns c = rw (filled-in (now (c .before .before .args .b)) (c .before .before .args .i)) (cc)
+returns c = rw (filled-in (now (c .before .before .args .b)) (c .before .before .args .i), ← c .word-at .ensures)
 
 pub is-filled-spec : {M : Type 1} → statement M
-is-filled-spec = tie.close (tie.spec (search needs) (search needs) returns)
+is-filled-spec =
+    tie.close (tie.spec (search needs) (search needs) returns)

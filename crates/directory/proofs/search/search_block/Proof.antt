@@ -36,5 +36,4 @@ returns-2 c =
 
 pub search-block-spec : {M : Type 1} → statement M
 search-block-spec =
-    tie.close
-    (tie.spec (search needs) first-in-block-requires returns first-in-block-requires-2 returns-2)
+    tie.close (tie.spec (search needs) first-in-block-requires returns first-in-block-requires-2 returns-2)
