@@ -1,1 +1,118 @@
-// The home block.
+// The home block: its fields, what makes a block one, and the search for it.
+use image::blocks::block;
+use image::sums::checksum;
+use image::words::word_at;
+ghost use mathlib.Core.Path.{_≡_};
+ghost use Prim.Native.Nat.{_+_, _*_, _^_, _≤_, _<_};
+ghost use mathlib.Core.Bool.{not, _&&_, _||_};
+ghost use lib.Dec.{eqb};
+ghost use lib.ListN.{length};
+ghost use Rattle.image.specs.First.{below};
+ghost use Rattle.volume.specs.Home.{hIbsz, hIblb, hFmax, hSbcl, hVlev, labelAt, isHome, position, homeIndex};
+
+// H.INDF of a home block.
+const LABEL: [u8; 12] = *b"DECFILE11A  ";
+
+// H.IBSZ.
+pub fn h_ibsz(b: &[u8]) -> u16
+    requires { ⌜ length (now b) ≡ 512 ⌝ }
+    ensures { λ r. ⌜ r ≡ hIbsz (now (b .entry)) ⌝ }
+{
+    word_at(b, 0)
+}
+
+// H.IBLB, high word first.
+pub fn h_iblb(b: &[u8]) -> u32
+    requires { ⌜ length (now b) ≡ 512 ⌝ }
+    ensures { λ r. ⌜ r ≡ hIblb (now (b .entry)) ⌝ }
+{
+    let high = word_at(b, 2);
+    let low = word_at(b, 4);
+    65536 * (high as u32) + (low as u32)
+}
+
+// H.FMAX.
+pub fn h_fmax(b: &[u8]) -> u16
+    requires { ⌜ length (now b) ≡ 512 ⌝ }
+    ensures { λ r. ⌜ r ≡ hFmax (now (b .entry)) ⌝ }
+{
+    word_at(b, 6)
+}
+
+// Whether H.INDF is the label.
+fn is_labelled(b: &[u8]) -> bool
+    requires { ⌜ length (now b) ≡ 512 ⌝ }
+    ensures { λ r. ⌜ r ≡ below 12 (labelAt (now (b .entry))) ⌝ }
+{
+    let mut i: usize = 0;
+    while i < 12 {
+        if b[496 + i] != LABEL[i] {
+            return false;
+        }
+        i += 1;
+    }
+    true
+}
+
+// Whether the fields of one word or two are those of a home block.
+fn has_home_fields(b: &[u8]) -> bool
+    requires { ⌜ length (now b) ≡ 512 ⌝ }
+    ensures { λ r. ⌜ r ≡ (not (eqb (hIbsz (now (b .entry))) 0)
+        && not (eqb (hIblb (now (b .entry))) 0)
+        && not (eqb (hFmax (now (b .entry))) 0)
+        && eqb (hSbcl (now (b .entry))) 1
+        && (eqb (hVlev (now (b .entry))) 257 || eqb (hVlev (now (b .entry))) 258)) ⌝ }
+{
+    let ibsz = h_ibsz(b);
+    let iblb = h_iblb(b);
+    let fmax = h_fmax(b);
+    let sbcl = word_at(b, 8);
+    let vlev = word_at(b, 12);
+    (ibsz != 0) & (iblb != 0) & (fmax != 0) & (sbcl == 1) & ((vlev == 257) | (vlev == 258))
+}
+
+// Whether a block is a home block. What is cheap to see is seen first.
+pub fn is_home(b: &[u8]) -> bool
+    requires { ⌜ length (now b) ≡ 512 ⌝ }
+    ensures { λ r. ⌜ r ≡ isHome (now (b .entry)) ⌝ }
+{
+    let fields = has_home_fields(b);
+    if !fields {
+        return false;
+    }
+    let labelled = is_labelled(b);
+    if !labelled {
+        return false;
+    }
+    let chk1 = checksum(b, 29);
+    if chk1 != word_at(b, 58) {
+        return false;
+    }
+    let sum = checksum(b, 255);
+    sum == word_at(b, 510)
+}
+
+// The LBN of home position i, from 0.
+pub fn position(i: u32) -> u32
+    requires { ⌜ i < 2 ^ 24 ⌝ }
+    ensures { λ r. ⌜ r ≡ position i ⌝ }
+{
+    if i == 0 { 1 } else { 256 * i }
+}
+
+// Which position has the home, from 0, on a volume of n blocks; the number of positions where none has it.
+pub fn home_index(image: &[u8], n: u32) -> u32
+    requires { ⌜ (length (now image) ≡ 512 * n) × (100 ≤ n) × (n ≤ 1044480) ⌝ }
+    ensures { λ r. ⌜ r ≡ homeIndex (now (image .entry)) ⌝ }
+{
+    let count = (n + 255) / 256;
+    let mut i: u32 = 0;
+    while i < count {
+        let b = block(image, position(i));
+        if is_home(b) {
+            return i;
+        }
+        i += 1;
+    }
+    i
+}

@@ -1,10 +1,190 @@
-// Opening a volume.
+// Opening a volume: SIZE, HOME, GEOMETRY, INDEX, STORAGE, in this order.
+use crate::home::h_fmax;
+use crate::home::h_iblb;
+use crate::home::h_ibsz;
+use crate::home::home_index;
+use crate::home::position;
+use crate::volume::Volume;
+use answer::outcome::Outcome;
 use answer::refusal::Refusal;
 use answer::types::Lbn;
+use header::fields::h_fseq;
+use header::fields::m_efnu;
+use header::fields::segment;
+use header::pointers::block_count;
+use header::pointers::first_pointer;
+use header::pointers::pointer_count;
+use header::pointers::pointer_lbn;
+use header::pointers::pointer_number;
+use header::whole::fault;
+use image::blocks::block;
+use image::words::byte_or_zero;
+ghost use mathlib.Core.Path.{_≡_};
+ghost use Prim.Native.Nat.{_+_, _≤_, _<_, _^_, min};
+ghost use mathlib.Core.Bool.{_&&_};
+ghost use lib.Dec.{eqb, leb};
+ghost use lib.ListN.{length};
+ghost use Rattle.answer.specs.declared.outcome.Outcome.the-variants as outcome;
+ghost use Rattle.image.specs.First.{below};
+ghost use Rattle.header.specs.Pointers.{Fits, blocksOf};
+ghost use Rattle.volume.specs.Home.{hIbsz, hIblb, hFmax};
+ghost use Rattle.volume.specs.Volume.{volumeOf};
+ghost use Rattle.volume.specs.Opening.{sized, indexMapBlocks, indexLbn, alone, indexMapped, storageMapped, openVolume, volumeAnswer};
 
 // The answer of opening a volume.
 pub enum Opened {
     // The LBN of the home.
     Done(Lbn),
     Refused(Refusal),
+}
+
+// Passed, and what calls on the volume need to know; or refused.
+pub struct OpenVolume {
+    pub outcome: Outcome,
+    pub volume: Volume,
+}
+
+// A refusal, with a volume that says nothing.
+fn refused(r: Refusal) -> OpenVolume
+    ensures { λ o. ⌜ o .outcome ≡ outcome.Refused r ⌝ }
+{
+    let volume = Volume {
+        blocks: 0,
+        home: 0,
+        ibsz: 0,
+        iblb: 0,
+        fmax: 0,
+        base: 0,
+    };
+    OpenVolume {
+        outcome: Outcome::Refused(r),
+        volume,
+    }
+}
+
+// Whether the image has a size that a volume can have.
+fn is_sized(image: &[u8]) -> bool
+    ensures { λ r. ⌜ r ≡ sized (now (image .entry)) ⌝ }
+{
+    let long = image.len();
+    let n = long / 512;
+    if long != 512 * n {
+        return false;
+    }
+    if n < 100 {
+        return false;
+    }
+    n <= 1044480
+}
+
+// Whether H.FMAX, H.IBSZ and H.IBLB of the home fit each other and a volume of n blocks.
+fn has_geometry(b: &[u8], n: u32) -> bool
+    requires { ⌜ length (now b) ≡ 512 ⌝ }
+    ensures { λ r. ⌜ r ≡ (leb 16 (hFmax (now (b .entry)))
+        && eqb (hIbsz (now (b .entry))) (indexMapBlocks (hFmax (now (b .entry))))
+        && leb (hIblb (now (b .entry)) + hIbsz (now (b .entry)) + 16) n) ⌝ }
+{
+    let ibsz = h_ibsz(b);
+    let iblb = h_iblb(b);
+    let fmax = h_fmax(b);
+    if fmax < 16 {
+        return false;
+    }
+    if (ibsz as u32) != ((fmax as u32) + 4095) / 4096 {
+        return false;
+    }
+    if (n as u64) < (iblb as u64) + (ibsz as u64) + 16 {
+        return false;
+    }
+    true
+}
+
+// The LBN of block i, from 0, of the index file.
+fn index_lbn(home: u32, iblb: u32, i: u32) -> u32
+    requires { ⌜ iblb + i < 2 ^ 32 ⌝ }
+    ensures { λ r. ⌜ r ≡ indexLbn home iblb i ⌝ }
+{
+    if i == 0 {
+        return 0;
+    }
+    if i == 1 {
+        return home;
+    }
+    iblb + (i - 2)
+}
+
+// Whether the c blocks from an LBN on are blocks k, k + 1 and so on of the index file.
+fn is_index_run(lbn: u32, c: u32, home: u32, iblb: u32, k: u32) -> bool
+    requires { ⌜ (lbn + c < 2 ^ 32) × (iblb + k + c < 2 ^ 32) ⌝ }
+    ensures { λ r. ⌜ r ≡ below c (λ i. eqb (lbn + i) (indexLbn home iblb (k + i))) ⌝ }
+{
+    let mut i: u32 = 0;
+    while i < c {
+        if lbn + i != index_lbn(home, iblb, k + i) {
+            return false;
+        }
+        i += 1;
+    }
+    true
+}
+
+// Whether a header is that of number n, sequence n, segment 0, whole and without extension, on a volume of so many blocks.
+fn is_alone(h: &[u8], blocks: u32, n: u32) -> bool
+    requires { ⌜ length (now h) ≡ 512 ⌝ }
+    ensures { λ r. ⌜ r ≡ alone blocks n (now (h .entry)) ⌝ }
+{
+    let test = fault(h, blocks, n);
+    if test != 0 {
+        return false;
+    }
+    let fseq = h_fseq(h);
+    let number = segment(h);
+    let efnu = m_efnu(h);
+    ((fseq as u32) == n) & (number == 0) & (efnu == 0)
+}
+
+// The lesser of two numbers.
+fn least(a: u32, b: u32) -> u32
+    ensures { λ r. ⌜ r ≡ min a b ⌝ }
+{
+    if a <= b { a } else { b }
+}
+
+// Whether the first m + 18 blocks of a header are those of the index file. Its pointers are walked in order.
+fn is_index_mapped(h: &[u8], home: u32, iblb: u32, m: u32) -> bool
+    requires { ⌜ Fits (now h) × (iblb < 2 ^ 31) × (m ≤ 65535) ⌝ }
+    ensures { λ r. ⌜ r ≡ indexMapped home iblb m (blocksOf (now (h .entry))) ⌝ }
+{
+    let at = first_pointer(h);
+    let number = pointer_number(h);
+    let mut done: u32 = 0;
+    let mut p: usize = 0;
+    while p < number {
+        let lbn = pointer_lbn(h, at + 4 * p);
+        let c = least(pointer_count(h, at + 4 * p), m + 18 - done);
+        if !is_index_run(lbn, c, home, iblb, done) {
+            return false;
+        }
+        done += c;
+        p += 1;
+    }
+    done == m + 18
+}
+
+// Whether a header maps exactly 1 + q blocks, by one pointer or by two of which the first maps one block.
+fn is_storage_mapped(h: &[u8], q: u32) -> bool
+    requires { ⌜ Fits (now h) × (q < 2 ^ 31) ⌝ }
+    ensures { λ r. ⌜ r ≡ storageMapped q (now (h .entry)) ⌝ }
+{
+    if block_count(h) != 1 + q {
+        return false;
+    }
+    let number = pointer_number(h);
+    if number == 1 {
+        return true;
+    }
+    if number != 2 {
+        return false;
+    }
+    pointer_count(h, first_pointer(h)) == 1
 }

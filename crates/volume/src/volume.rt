@@ -1,5 +1,11 @@
 // An opened volume: slots of file headers, and which file numbers are in use.
+use answer::types::FileNumber;
 use answer::types::Lbn;
+use image::bits::bit_at;
+use image::blocks::region;
+ghost use mathlib.Core.Path.{_≡_};
+ghost use Rattle.volume.specs.Volume.{inUse};
+ghost use Rattle.volume.specs.Opening.{Open};
 
 // What calls on an opened volume need to know of it.
 pub struct Volume {
@@ -21,4 +27,20 @@ pub struct Volume {
 pub enum Slot {
     At(Lbn),
     Missing,
+}
+
+// Whether a file number is in use.
+pub fn is_in_use(image: &[u8], v: Volume, n: FileNumber) -> bool
+    requires { ⌜ Open (now image) v ⌝ }
+    ensures { λ r. ⌜ r ≡ inUse (now (image .entry)) (n .0) ⌝ }
+{
+    let number = n.0;
+    if number < 1 {
+        return false;
+    }
+    if v.fmax < number {
+        return false;
+    }
+    let map = region(image, v.iblb, v.ibsz);
+    bit_at(map, (number - 1) as usize) == 1
 }

@@ -1,0 +1,3 @@
+pub mod HomeLaws
+pub mod OpeningLaws
+pub mod VolumeLaws

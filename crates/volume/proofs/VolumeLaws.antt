@@ -1,0 +1,216 @@
+-- What an image that opens is known to have.
+use mathlib.Core.Path.{_≡_, ap, _∙_}
+use mathlib.Core.Bool.{Bool, true, _&&_, and-eq-true-iff}
+use mathlib.Core.List.{List}
+use native.Mathlib.Numerals.{add-one}
+use Prim.Native.Nat.{ℕ, zero, suc, _+_, _*_, _-_, _≤_, _<_}
+use native.Mathlib.Omega.{arith}
+use borrow.Author.Tests.{eqb-true, leb-true, ltb-true}
+use lib.Dec.{eqb, leb}
+use lib.ListN.{length, getD}
+use Rattle.image.specs.Words.{byteAt, Bytes}
+use Rattle.image.specs.Blocks.{block}
+use Rattle.image.specs.First.{below}
+use Rattle.image.proofs.Below.{below-at}
+use Rattle.image.proofs.WordLaws.{word-below}
+use Rattle.image.proofs.BlockLaws.{region-length, block-length, block-bytes}
+use Rattle.answer.specs.declared.refusal.Refusal.the-variants as refusal
+use Rattle.answer.specs.declared.outcome.Outcome.the-variants.{Passed}
+use Rattle.header.specs.Fields.{hFseq, mapArea, segment, mEfnu, mUse}
+use Rattle.header.specs.Pointers.{pointerCount, runs, pointersAt, pointers, Fits, blocksOf}
+use Rattle.header.specs.Whole.{fault}
+use Rattle.header.proofs.PointerLaws.{runs-none, runs-length}
+use Rattle.header.proofs.WholeLaws.{whole-fits, whole-inside}
+use Rattle.volume.specs.Home.{hFmax, blocks, positions, homeIndex, home}
+use Rattle.volume.specs.Volume.{ibsz, iblb, fmax, indexHeader, index, slot, slots, header, indexMap, mapBlocks, base, storageMap, volumeOf}
+use Rattle.volume.specs.declared.volume.Volume.{Volume}
+use Rattle.volume.specs.Opening.{sized, homed, indexMapBlocks, geometry, alone, indexLbn, indexAt, indexMapped, indexed, storageMapped, stored, openVolume}
+use Rattle.volume.proofs.HomeLaws.{position-below}
+use Rattle.volume.proofs.OpeningLaws.{passed-first, passed-last, indexLbn-boot, indexLbn-home, indexLbn-row, storage-long, storage-row}
+
+-- A header that stands alone: whole, of its number and sequence, segment 0, without extension.
+pub record Alone (total n : ℕ) (h : List ℕ) : Type 0 where
+  pub whole : fault total n h ≡ 0
+  pub sequence : hFseq h ≡ n
+  pub first : segment h ≡ 0
+  pub last : mEfnu h ≡ 0
+
+-- The LBNs that the index file begins with.
+pub record Index (home iblb m : ℕ) (lbns : List ℕ) : Type 0 where
+  pub long : m + 18 ≤ length lbns
+  pub boot : getD lbns 0 0 ≡ 0
+  pub homed : getD lbns 1 0 ≡ home
+  pub row : (i : ℕ) → i < m + 16 → getD lbns (2 + i) 0 ≡ iblb + i
+
+-- The image opens.
+pub record Opens (image : List ℕ) : Type 0 where
+  pub size : length image ≡ 512 * blocks image
+  pub least : 100 ≤ blocks image
+  pub most : blocks image ≤ 1044480
+  pub found : homeIndex image < positions (blocks image)
+  pub enough : 16 ≤ fmax image
+  pub maps : ibsz image ≡ indexMapBlocks (fmax image)
+  pub fits : iblb image + ibsz image + 16 ≤ blocks image
+  pub index-header : Alone (blocks image) 1 (indexHeader image)
+  pub index-file : Index (home image) (iblb image) (ibsz image) (index image)
+  pub storage-header : Alone (blocks image) 2 (header image 2)
+  pub shape : storageMapped (mapBlocks (blocks image)) (header image 2) ≡ true
+  pub control : byteAt (block image (getD (blocksOf (header image 2)) 0 0)) 3 ≡ mapBlocks (blocks image)
+
+-- Three tests in a row, and four.
+three : (a b c : Bool) → (a && b && c) ≡ true → (a ≡ true) × (b ≡ true) × (c ≡ true)
+three a b c t =
+    let s = and-eq-true-iff (a && b) c .0 t in
+    let r = and-eq-true-iff a b .0 (s .0) in
+    (r .0, r .1, s .1)
+
+pub alone-gives : (total n : ℕ) (h : List ℕ) → alone total n h ≡ true → Alone total n h
+unfolding alone
+alone-gives total n h t =
+    let s = and-eq-true-iff (eqb (fault total n h) 0 && eqb (hFseq h) n && eqb (segment h) 0) (eqb (mEfnu h) 0) .0 t in
+    let r = three (eqb (fault total n h) 0) (eqb (hFseq h) n) (eqb (segment h) 0) (s .0) in
+    record {
+      whole = eqb-true (fault total n h) 0 (r .0);
+      sequence = eqb-true (hFseq h) n (r .1);
+      first = eqb-true (segment h) 0 (r .2);
+      last = eqb-true (mEfnu h) 0 (s .1);
+    }
+
+pub index-gives : (home iblb m : ℕ) (lbns : List ℕ) → indexMapped home iblb m lbns ≡ true → Index home iblb m lbns
+unfolding indexMapped indexAt
+index-gives home iblb m lbns t =
+    let s = and-eq-true-iff (leb (m + 18) (length lbns)) (below (m + 18) (indexAt home iblb lbns)) .0 t in
+    let at : (i : ℕ) → i < m + 18 → getD lbns i 0 ≡ indexLbn home iblb i =
+    λ i l. eqb-true (getD lbns i 0) (indexLbn home iblb i) (below-at (m + 18) (indexAt home iblb lbns) (s .1) i l) in
+    record {
+      long = leb-true (m + 18) (length lbns) (s .0);
+      boot = at 0 (omega arith) ∙ indexLbn-boot home iblb;
+      homed = at 1 (omega arith) ∙ indexLbn-home home iblb;
+      row = λ i l. at (2 + i) (omega arith) ∙ indexLbn-row home iblb (2 + i) (omega arith) ∙ omega arith;
+    }
+
+pub opens : (image : List ℕ) → openVolume image ≡ Passed → Opens image
+unfolding openVolume sized homed geometry indexed index stored
+opens image e =
+    let n = blocks image in
+    let s = passed-first (sized image) refusal.Size _ e in
+    let h = passed-first (homed image) refusal.Home _ (s .1) in
+    let g = passed-first (geometry image) refusal.Geometry _ (h .1) in
+    let i = passed-first (indexed image) refusal.Index _ (g .1) in
+    let size = three (eqb (length image) (512 * n)) (leb 100 n) (leb n 1044480) (s .0) in
+    let lay = three (leb 16 (fmax image)) (eqb (ibsz image) (indexMapBlocks (fmax image))) (leb (iblb image + ibsz image + 16) n) (g .0) in
+    let file = and-eq-true-iff (alone n 1 (indexHeader image)) (indexMapped (home image) (iblb image) (ibsz image) (blocksOf (indexHeader image))) .0 (i .0) in
+    let map = three (alone n 2 (header image 2)) (storageMapped (mapBlocks n) (header image 2)) (eqb (byteAt (block image (getD (blocksOf (header image 2)) 0 0)) 3) (mapBlocks n)) (passed-last (stored image) refusal.Storage (i .1)) in
+    record {
+      size = eqb-true (length image) (512 * n) (size .0);
+      least = leb-true 100 n (size .1);
+      most = leb-true n 1044480 (size .2);
+      found = ltb-true (homeIndex image) (positions n) (h .0);
+      enough = leb-true 16 (fmax image) (lay .0);
+      maps = eqb-true (ibsz image) (indexMapBlocks (fmax image)) (lay .1);
+      fits = leb-true (iblb image + ibsz image + 16) n (lay .2);
+      index-header = alone-gives n 1 (indexHeader image) (file .0);
+      index-file = index-gives (home image) (iblb image) (ibsz image) (blocksOf (indexHeader image)) (file .1);
+      storage-header = alone-gives n 2 (header image 2) (map .0);
+      shape = map .1;
+      control = eqb-true (byteAt (block image (getD (blocksOf (header image 2)) 0 0)) 3) (mapBlocks n) (map .2);
+    }
+
+module _ {image : List ℕ} (o : Opens image) where
+  pub home-below : home image < blocks image
+  unfolding home
+  home-below = position-below (blocks image) (homeIndex image) (omega (arith, o .least)) (o .found)
+
+  -- The slots of the first sixteen numbers.
+  pub slot-first : (n : ℕ) → 1 ≤ n → n ≤ 16 → slot image n ≡ iblb image + ibsz image + (n - 1)
+  unfolding slot
+  slot-first n l h =
+      ap (λ (i : ℕ). getD (index image) i 0) (omega arith) ∙ o .index-file .row (ibsz image + (n - 1)) (omega arith) ∙ omega arith
+
+  pub header-first : header image 1 ≡ indexHeader image
+  unfolding header indexHeader
+  header-first = ap (block image) (slot-first 1 (omega arith) (omega arith) ∙ omega arith)
+
+  -- Every block of the index file, and so every slot, lies on the volume.
+  pub index-below : (i : ℕ) → i < length (index image) → getD (index image) i 0 < blocks image
+  unfolding index
+  index-below = whole-inside (blocks image) 1 (indexHeader image) (o .index-header .whole)
+
+  pub slot-below : (n : ℕ) → 1 ≤ n → n ≤ slots image → slot image n < blocks image
+  unfolding slot slots
+  slot-below n l h = index-below (1 + ibsz image + n) (omega (arith, o .index-file .long))
+
+  pub header-length : (n : ℕ) → 1 ≤ n → n ≤ slots image → length (header image n) ≡ 512
+  unfolding header
+  header-length n l h = block-length image (slot image n) (omega (arith, o .size, slot-below n l h))
+
+  -- At least sixteen numbers have a slot.
+  pub slots-least : 16 ≤ slots image
+  unfolding slots
+  slots-least = omega (arith, o .index-file .long)
+
+  pub indexHeader-length : length (indexHeader image) ≡ 512
+  unfolding indexHeader
+  indexHeader-length = block-length image (iblb image + ibsz image) (omega (arith, o .size, o .fits))
+
+  pub indexHeader-fits : Fits (indexHeader image)
+  indexHeader-fits = whole-fits (blocks image) 1 (indexHeader image) indexHeader-length (o .index-header .whole)
+
+  pub header2-fits : Fits (header image 2)
+  header2-fits = whole-fits (blocks image) 2 (header image 2) (header-length 2 (omega arith) (omega (arith, slots-least))) (o .storage-header .whole)
+
+  -- The storage map: 1 + q blocks, of which the q with the bits stand in a row on the volume.
+  pub storage-size : length (blocksOf (header image 2)) ≡ 1 + mapBlocks (blocks image)
+  storage-size = storage-long (mapBlocks (blocks image)) (header image 2) (o .shape)
+
+  pub storage-base : (i : ℕ) → i < mapBlocks (blocks image) → getD (blocksOf (header image 2)) (1 + i) 0 ≡ base image + i
+  unfolding base
+  storage-base = storage-row (mapBlocks (blocks image)) (header image 2) (o .shape)
+
+  pub base-fits : base image + mapBlocks (blocks image) ≤ blocks image
+  unfolding mapBlocks
+  base-fits =
+      let q = mapBlocks (blocks image) in
+      omega (arith, o .least, storage-size, storage-base (q - 1) (omega (arith, o .least)), whole-inside (blocks image) 2 (header image 2) (o .storage-header .whole) (1 + (q - 1)) (omega (arith, storage-size)))
+
+  pub storageMap-length : length (storageMap image) ≡ 512 * mapBlocks (blocks image)
+  unfolding storageMap
+  storageMap-length = region-length image (base image) (mapBlocks (blocks image)) (omega (arith, o .size, base-fits))
+
+  pub indexMap-length : length (indexMap image) ≡ 512 * ibsz image
+  unfolding indexMap
+  indexMap-length = region-length image (iblb image) (ibsz image) (omega (arith, o .size, o .fits))
+
+-- How many blocks a header can cover.
+runs-most : (h : List ℕ) (at p : ℕ) → Bytes h → length (runs h at p) ≤ 256 * p
+unfolding pointerCount
+runs-most h at zero bytes = omega (arith, ap length (runs-none h at))
+runs-most h at (suc p) bytes = rw (← add-one p) (omega (arith, runs-most h at p bytes, runs-length h at p, bytes .each (at + 4 * p + 1)))
+
+pub blocksOf-most : (h : List ℕ) → Bytes h → length (blocksOf h) ≤ 32512
+unfolding blocksOf pointers mUse
+blocksOf-most h bytes = omega (arith, runs-most h (pointersAt h) (pointers h) bytes, bytes .each (mapArea h + 8))
+
+pub fmax-below : (image : List ℕ) → Bytes image → fmax image < 65536
+unfolding fmax hFmax
+fmax-below image bytes = word-below (block image (home image)) (block-bytes image (home image) bytes) 6
+
+-- What calls on an opened volume know of it.
+pub record Says (image : List ℕ) (v : Volume) : Type 0 where
+  pub blocks : v .blocks ≡ blocks image
+  pub home : v .home ≡ home image
+  pub ibsz : v .ibsz ≡ ibsz image
+  pub iblb : v .iblb ≡ iblb image
+  pub fmax : v .fmax ≡ fmax image
+  pub base : v .base ≡ base image
+
+pub says : (image : List ℕ) (v : Volume) → v ≡ volumeOf image → Says image v
+unfolding volumeOf
+says image v e = record {
+  blocks = ap (λ (v : Volume). v .blocks) e;
+  home = ap (λ (v : Volume). v .home) e;
+  ibsz = ap (λ (v : Volume). v .ibsz) e;
+  iblb = ap (λ (v : Volume). v .iblb) e;
+  fmax = ap (λ (v : Volume). v .fmax) e;
+  base = ap (λ (v : Volume). v .base) e;
+}
