@@ -6,19 +6,60 @@ use mathlib.Core.List.{List}
 use Prim.Native.Nat.{ℕ, _+_, _*_, _-_, _≤_, _<_, min}
 use native.Mathlib.Decide.{decLt}
 use native.Mathlib.Omega.{arith}
-use borrow.Author.Tests.{eqb-true, eq-eqb, ne-eqb, le-leb, lt-leb}
+use borrow.Author.Tests.{eqb-true, leb-true, ltb-true, eq-eqb, ne-eqb, le-leb, lt-leb}
 use lib.Dec.{eqb, leb}
-use lib.ListN.{length, getD}
+use lib.ListN.{length, getD, List·getD-eq-default}
 use Rattle.image.specs.First.{below}
+use Rattle.image.specs.Blocks.{block}
 use Rattle.image.proofs.Below.{below-at, below-all}
+use Rattle.image.proofs.BlockLaws.{block-length}
 use Rattle.answer.specs.declared.refusal.Refusal.{Refusal}
 use Rattle.answer.specs.declared.refusal.Refusal.the-variants as refusal
 use Rattle.answer.specs.declared.outcome.Outcome.{Outcome}
 use Rattle.answer.specs.declared.outcome.Outcome.the-variants.{Passed, Refused}
 use Rattle.answer.specs.Outcome.{unless, _then_}
-use Rattle.header.specs.Pointers.{pointerLbn, pointerCount, runs, pointersAt, pointers, blocksOf}
-use Rattle.header.proofs.PointerLaws.{runs-none, runs-length, runs-at}
-use Rattle.volume.specs.Opening.{sized, homed, geometry, indexLbn, indexAt, indexMapped, indexed, storageMapped, stored, openVolume}
+use Rattle.header.specs.Pointers.{pointerLbn, pointerCount, runs, pointersAt, pointers, blocksOf, placeIn}
+use Rattle.header.specs.declared.pointers.Place.{Place}
+use Rattle.header.specs.declared.pointers.Place.the-variants.{At, Past}
+use Rattle.header.proofs.PointerLaws.{place-at, place-past, runs-none, runs-length, runs-at}
+use Rattle.volume.specs.Home.{blocks, positions, homeIndex, home}
+use Rattle.volume.proofs.HomeLaws.{position-below}
+use Rattle.volume.specs.declared.opening.OpenVolume.{OpenVolume}
+use Rattle.volume.specs.Volume.{ibsz, iblb, fmax, volumeOf}
+use Rattle.volume.specs.Opening.{sized, homed, indexMapBlocks, geometry, indexLbn, indexAt, indexMapped, indexed, storageMapped, stored, openVolume}
+
+-- Three tests in a row.
+pub three : (a b c : Bool) → (a && b && c) ≡ true → (a ≡ true) × (b ≡ true) × (c ≡ true)
+three a b c t =
+    let s = and-eq-true-iff (a && b) c .0 t in
+    let r = and-eq-true-iff a b .0 (s .0) in
+    (r .0, r .1, s .1)
+
+-- Size and geometry as numbers.
+module _ (image : List ℕ) where
+  pub sized-is : sized image ≡ true → (length image ≡ 512 * blocks image) × (100 ≤ blocks image) × (blocks image ≤ 1044480)
+  unfolding sized
+  sized-is t =
+      let n = blocks image in
+      let r = three (eqb (length image) (512 * n)) (leb 100 n) (leb n 1044480) t in
+      (eqb-true (length image) (512 * n) (r .0), leb-true 100 n (r .1), leb-true n 1044480 (r .2))
+
+  pub geometry-is : geometry image ≡ true → (16 ≤ fmax image) × (ibsz image ≡ indexMapBlocks (fmax image)) × (iblb image + ibsz image + 16 ≤ blocks image)
+  unfolding geometry
+  geometry-is t =
+      let r = three (leb 16 (fmax image)) (eqb (ibsz image) (indexMapBlocks (fmax image))) (leb (iblb image + ibsz image + 16) (blocks image)) t in
+      (leb-true 16 (fmax image) (r .0), eqb-true (ibsz image) (indexMapBlocks (fmax image)) (r .1), leb-true (iblb image + ibsz image + 16) (blocks image) (r .2))
+
+  -- The home lies on the volume.
+  pub home-inside : 100 ≤ blocks image → homeIndex image < positions (blocks image) → home image < blocks image
+  unfolding home
+  home-inside l h = position-below (blocks image) (homeIndex image) (omega arith) h
+
+  pub home-length : sized image ≡ true → homed image ≡ true → length (block image (home image)) ≡ 512
+  unfolding homed
+  home-length s h =
+      let n = sized-is s in
+      block-length image (home image) (omega (arith, n .0, home-inside (n .1) (ltb-true (homeIndex image) (positions (blocks image)) h)))
 
 -- Where a row of tests is passed, its first test is met and the rest is passed.
 never-passed : {A : Type 0} (r : Refusal) → Refused r ≡ Passed → A
@@ -37,6 +78,11 @@ pub passed-last : (b : Bool) (r : Refusal) → unless b r ≡ Passed → b ≡ t
 unfolding unless
 passed-last true r e = refl
 passed-last false r e = never-passed r e
+
+-- A refusal, and what a volume is then said to be.
+pub open-refused : (image : List ℕ) (r : Refusal) (o : OpenVolume) → o .outcome ≡ Refused r → openVolume image ≡ Refused r
+    → (o .outcome ≡ openVolume image) × (openVolume image ≡ Passed → o .volume ≡ volumeOf image)
+open-refused image r o e f = (e ∙ sym f, λ p. never-passed r (sym f ∙ p))
 
 -- What opening answers, by the first test that is not met.
 module _ (image : List ℕ) where
@@ -165,3 +211,15 @@ module _ (q : ℕ) (h : List ℕ) (t : storageMapped q h ≡ true) where
       go : (pointers h ≡ 1) ⊎ (pointers h ≡ 2) × (pointerCount h at ≡ 1) → getD (blocksOf h) (1 + i) 0 ≡ getD (blocksOf h) 1 0 + i
       go (inl one) = omega (arith, row-of one (1 + i) (omega arith), row-of one 1 (omega arith))
       go (inr two) = omega (arith, row-after (two .0) (two .1) i l, row-after (two .0) (two .1) 0 (omega arith))
+
+-- The LBN of a place among the blocks of a header.
+abbrev pub lbnOf : Place → ℕ
+lbnOf (At l) = l .0
+lbnOf (Past i) = 0
+
+pub lbn-of-place : (lbns : List ℕ) (i : ℕ) → lbnOf (placeIn lbns i) ≡ getD lbns i 0
+lbn-of-place lbns i = go (decLt i (length lbns))
+  where
+    go : Dec (i < length lbns) → lbnOf (placeIn lbns i) ≡ getD lbns i 0
+    go (yes l) = rw (place-at lbns i l)
+    go (no l) = rw (place-past lbns i (omega arith)) (sym (List·getD-eq-default lbns 0 {n = i} (omega arith)))

@@ -1,11 +1,12 @@
 -- What an image that opens is known to have.
 use mathlib.Core.Path.{_≡_, ap, _∙_}
-use mathlib.Core.Bool.{Bool, true, _&&_, and-eq-true-iff}
+use mathlib.Core.Bool.{true, _&&_, and-eq-true-iff}
 use mathlib.Core.List.{List}
 use native.Mathlib.Numerals.{add-one}
 use Prim.Native.Nat.{ℕ, zero, suc, _+_, _*_, _-_, _≤_, _<_}
+use native.Mathlib.Decide.{decLt}
 use native.Mathlib.Omega.{arith}
-use borrow.Author.Tests.{eqb-true, leb-true, ltb-true}
+use borrow.Author.Tests.{le-leb, lt-leb, eqb-true, leb-true, ltb-true}
 use lib.Dec.{eqb, leb}
 use lib.ListN.{length, getD}
 use Rattle.image.specs.Words.{byteAt, Bytes}
@@ -17,16 +18,19 @@ use Rattle.image.proofs.BlockLaws.{region-length, block-length, block-bytes}
 use Rattle.answer.specs.declared.refusal.Refusal.the-variants as refusal
 use Rattle.answer.specs.declared.outcome.Outcome.the-variants.{Passed}
 use Rattle.header.specs.Fields.{hFseq, mapArea, segment, mEfnu, mUse}
-use Rattle.header.specs.Pointers.{pointerCount, runs, pointersAt, pointers, Fits, blocksOf}
+use Rattle.header.specs.Pointers.{pointerCount, runs, pointersAt, pointers, Fits, blocksOf, placeIn}
+use Rattle.header.specs.declared.pointers.Place.{Place}
+use Rattle.header.specs.declared.pointers.Place.the-variants as place
 use Rattle.header.specs.Whole.{fault}
-use Rattle.header.proofs.PointerLaws.{runs-none, runs-length}
+use Rattle.header.proofs.PointerLaws.{place-at, place-past, runs-none, runs-length}
 use Rattle.header.proofs.WholeLaws.{whole-fits, whole-inside}
 use Rattle.volume.specs.Home.{hFmax, blocks, positions, homeIndex, home}
-use Rattle.volume.specs.Volume.{ibsz, iblb, fmax, indexHeader, index, slot, slots, header, indexMap, mapBlocks, base, storageMap, volumeOf}
+use Rattle.volume.specs.Volume.{ibsz, iblb, fmax, indexHeader, index, slot, slots, hasSlot, slotOf, header, indexMap, mapBlocks, base, storageMap, volumeOf}
 use Rattle.volume.specs.declared.volume.Volume.{Volume}
+use Rattle.volume.specs.declared.volume.Slot.{Slot}
+use Rattle.volume.specs.declared.volume.Slot.the-variants.{At, Missing}
 use Rattle.volume.specs.Opening.{sized, homed, indexMapBlocks, geometry, alone, indexLbn, indexAt, indexMapped, indexed, storageMapped, stored, openVolume}
-use Rattle.volume.proofs.HomeLaws.{position-below}
-use Rattle.volume.proofs.OpeningLaws.{passed-first, passed-last, indexLbn-boot, indexLbn-home, indexLbn-row, storage-long, storage-row}
+use Rattle.volume.proofs.OpeningLaws.{three, sized-is, geometry-is, home-inside, passed-first, passed-last, indexLbn-boot, indexLbn-home, indexLbn-row, storage-long, storage-row}
 
 -- A header that stands alone: whole, of its number and sequence, segment 0, without extension.
 pub record Alone (total n : ℕ) (h : List ℕ) : Type 0 where
@@ -57,13 +61,6 @@ pub record Opens (image : List ℕ) : Type 0 where
   pub shape : storageMapped (mapBlocks (blocks image)) (header image 2) ≡ true
   pub control : byteAt (block image (getD (blocksOf (header image 2)) 0 0)) 3 ≡ mapBlocks (blocks image)
 
--- Three tests in a row, and four.
-three : (a b c : Bool) → (a && b && c) ≡ true → (a ≡ true) × (b ≡ true) × (c ≡ true)
-three a b c t =
-    let s = and-eq-true-iff (a && b) c .0 t in
-    let r = and-eq-true-iff a b .0 (s .0) in
-    (r .0, r .1, s .1)
-
 pub alone-gives : (total n : ℕ) (h : List ℕ) → alone total n h ≡ true → Alone total n h
 unfolding alone
 alone-gives total n h t =
@@ -89,43 +86,62 @@ index-gives home iblb m lbns t =
       row = λ i l. at (2 + i) (omega arith) ∙ indexLbn-row home iblb (2 + i) (omega arith) ∙ omega arith;
     }
 
-pub opens : (image : List ℕ) → openVolume image ≡ Passed → Opens image
-unfolding openVolume sized homed geometry indexed index stored
-opens image e =
+-- Header 1 and header 2 as the tests have them.
+pub indexed-gives : (image : List ℕ) → indexed image ≡ true → Alone (blocks image) 1 (indexHeader image) × Index (home image) (iblb image) (ibsz image) (index image)
+unfolding indexed
+indexed-gives image t =
+    let r = and-eq-true-iff (alone (blocks image) 1 (indexHeader image)) (indexMapped (home image) (iblb image) (ibsz image) (index image)) .0 t in
+    (alone-gives (blocks image) 1 (indexHeader image) (r .0), index-gives (home image) (iblb image) (ibsz image) (index image) (r .1))
+
+pub stored-gives : (image : List ℕ) → stored image ≡ true
+    → Alone (blocks image) 2 (header image 2)
+    × (storageMapped (mapBlocks (blocks image)) (header image 2) ≡ true)
+    × (byteAt (block image (getD (blocksOf (header image 2)) 0 0)) 3 ≡ mapBlocks (blocks image))
+unfolding stored
+stored-gives image t =
     let n = blocks image in
+    let control = byteAt (block image (getD (blocksOf (header image 2)) 0 0)) 3 in
+    let r = three (alone n 2 (header image 2)) (storageMapped (mapBlocks n) (header image 2)) (eqb control (mapBlocks n)) t in
+    (alone-gives n 2 (header image 2) (r .0), r .1, eqb-true control (mapBlocks n) (r .2))
+
+pub opens : (image : List ℕ) → openVolume image ≡ Passed → Opens image
+unfolding openVolume homed
+opens image e =
     let s = passed-first (sized image) refusal.Size _ e in
     let h = passed-first (homed image) refusal.Home _ (s .1) in
     let g = passed-first (geometry image) refusal.Geometry _ (h .1) in
     let i = passed-first (indexed image) refusal.Index _ (g .1) in
-    let size = three (eqb (length image) (512 * n)) (leb 100 n) (leb n 1044480) (s .0) in
-    let lay = three (leb 16 (fmax image)) (eqb (ibsz image) (indexMapBlocks (fmax image))) (leb (iblb image + ibsz image + 16) n) (g .0) in
-    let file = and-eq-true-iff (alone n 1 (indexHeader image)) (indexMapped (home image) (iblb image) (ibsz image) (blocksOf (indexHeader image))) .0 (i .0) in
-    let map = three (alone n 2 (header image 2)) (storageMapped (mapBlocks n) (header image 2)) (eqb (byteAt (block image (getD (blocksOf (header image 2)) 0 0)) 3) (mapBlocks n)) (passed-last (stored image) refusal.Storage (i .1)) in
+    let size = sized-is image (s .0) in
+    let lay = geometry-is image (g .0) in
+    let file = indexed-gives image (i .0) in
+    let map = stored-gives image (passed-last (stored image) refusal.Storage (i .1)) in
     record {
-      size = eqb-true (length image) (512 * n) (size .0);
-      least = leb-true 100 n (size .1);
-      most = leb-true n 1044480 (size .2);
-      found = ltb-true (homeIndex image) (positions n) (h .0);
-      enough = leb-true 16 (fmax image) (lay .0);
-      maps = eqb-true (ibsz image) (indexMapBlocks (fmax image)) (lay .1);
-      fits = leb-true (iblb image + ibsz image + 16) n (lay .2);
-      index-header = alone-gives n 1 (indexHeader image) (file .0);
-      index-file = index-gives (home image) (iblb image) (ibsz image) (blocksOf (indexHeader image)) (file .1);
-      storage-header = alone-gives n 2 (header image 2) (map .0);
+      size = size .0;
+      least = size .1;
+      most = size .2;
+      found = ltb-true (homeIndex image) (positions (blocks image)) (h .0);
+      enough = lay .0;
+      maps = lay .1;
+      fits = lay .2;
+      index-header = file .0;
+      index-file = file .1;
+      storage-header = map .0;
       shape = map .1;
-      control = eqb-true (byteAt (block image (getD (blocksOf (header image 2)) 0 0)) 3) (mapBlocks n) (map .2);
+      control = map .2;
     }
+
+-- The slots of the first sixteen numbers.
+pub index-slot : (image : List ℕ) → Index (home image) (iblb image) (ibsz image) (index image) → (n : ℕ) → 1 ≤ n → n ≤ 16 → slot image n ≡ iblb image + ibsz image + (n - 1)
+unfolding slot
+index-slot image file n l h =
+    ap (λ (i : ℕ). getD (index image) i 0) (omega arith) ∙ file .row (ibsz image + (n - 1)) (omega arith) ∙ omega arith
 
 module _ {image : List ℕ} (o : Opens image) where
   pub home-below : home image < blocks image
-  unfolding home
-  home-below = position-below (blocks image) (homeIndex image) (omega (arith, o .least)) (o .found)
+  home-below = home-inside image (o .least) (o .found)
 
-  -- The slots of the first sixteen numbers.
   pub slot-first : (n : ℕ) → 1 ≤ n → n ≤ 16 → slot image n ≡ iblb image + ibsz image + (n - 1)
-  unfolding slot
-  slot-first n l h =
-      ap (λ (i : ℕ). getD (index image) i 0) (omega arith) ∙ o .index-file .row (ibsz image + (n - 1)) (omega arith) ∙ omega arith
+  slot-first = index-slot image (o .index-file)
 
   pub header-first : header image 1 ≡ indexHeader image
   unfolding header indexHeader
@@ -214,3 +230,35 @@ says image v e = record {
   fmax = ap (λ (v : Volume). v .fmax) e;
   base = ap (λ (v : Volume). v .base) e;
 }
+
+pub says-all : (image : List ℕ) (v : Volume) → Says image v → v ≡ volumeOf image
+unfolding volumeOf
+says-all image v s = λ i. record {
+  blocks = s .blocks i;
+  home = s .home i;
+  ibsz = s .ibsz i;
+  iblb = s .iblb i;
+  fmax = s .fmax i;
+  base = s .base i;
+}
+
+-- The slot of a number by its place in the index file.
+abbrev pub slotIn : Place → Slot
+slotIn (place.At l) = At l
+slotIn (place.Past i) = Missing
+
+pub slot-place : (image : List ℕ) → Opens image → (n i : ℕ) → i ≡ 1 + ibsz image + n → slotIn (placeIn (index image) i) ≡ slotOf image n
+unfolding slotOf hasSlot slots slot
+slot-place image o n i e = go (decLt i (length (index image)))
+  where
+    go : Dec (i < length (index image)) → slotIn (placeIn (index image) i) ≡ slotOf image n
+    go (yes l) =
+        rw (place-at (index image) i l, le-leb n (length (index image) - (2 + ibsz image)) (omega arith), e)
+    go (no l) =
+        rw (place-past (index image) i (omega arith), lt-leb n (length (index image) - (2 + ibsz image)) (omega (arith, o .index-file .long)))
+
+-- A header can cover 32,512 blocks, so no higher number has a slot.
+pub slot-none : (image : List ℕ) → Bytes image → (n : ℕ) → 32512 < n → slotOf image n ≡ Missing
+unfolding slotOf hasSlot slots index indexHeader
+slot-none image bytes n l =
+    rw (lt-leb n (slots image) (omega (arith, blocksOf-most (indexHeader image) (block-bytes image (iblb image + ibsz image) bytes))))

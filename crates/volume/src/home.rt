@@ -14,7 +14,7 @@ ghost use Rattle.volume.specs.Home.{hIbsz, hIblb, hFmax, hSbcl, hVlev, l
 const LABEL: [u8; 12] = *b"DECFILE11A  ";
 
 // H.IBSZ.
-pub fn h_ibsz(b: &[u8]) -> u16
+pub(crate) fn h_ibsz(b: &[u8]) -> u16
     requires { ⌜ length (now b) ≡ 512 ⌝ }
     ensures { λ r. ⌜ r ≡ hIbsz (now (b .entry)) ⌝ }
 {
@@ -22,7 +22,7 @@ pub fn h_ibsz(b: &[u8]) -> u16
 }
 
 // H.IBLB, high word first.
-pub fn h_iblb(b: &[u8]) -> u32
+pub(crate) fn h_iblb(b: &[u8]) -> u32
     requires { ⌜ length (now b) ≡ 512 ⌝ }
     ensures { λ r. ⌜ r ≡ hIblb (now (b .entry)) ⌝ }
 {
@@ -32,7 +32,7 @@ pub fn h_iblb(b: &[u8]) -> u32
 }
 
 // H.FMAX.
-pub fn h_fmax(b: &[u8]) -> u16
+pub(crate) fn h_fmax(b: &[u8]) -> u16
     requires { ⌜ length (now b) ≡ 512 ⌝ }
     ensures { λ r. ⌜ r ≡ hFmax (now (b .entry)) ⌝ }
 {
@@ -63,12 +63,26 @@ fn has_home_fields(b: &[u8]) -> bool
         && eqb (hSbcl (now (b .entry))) 1
         && (eqb (hVlev (now (b .entry))) 257 || eqb (hVlev (now (b .entry))) 258)) ⌝ }
 {
-    let ibsz = h_ibsz(b);
-    let iblb = h_iblb(b);
-    let fmax = h_fmax(b);
-    let sbcl = word_at(b, 8);
+    if h_ibsz(b) == 0 {
+        return false;
+    }
+    if h_iblb(b) == 0 {
+        return false;
+    }
+    if h_fmax(b) == 0 {
+        return false;
+    }
+    if word_at(b, 8) != 1 {
+        return false;
+    }
     let vlev = word_at(b, 12);
-    (ibsz != 0) & (iblb != 0) & (fmax != 0) & (sbcl == 1) & ((vlev == 257) | (vlev == 258))
+    if vlev == 257 {
+        return true;
+    }
+    if vlev != 258 {
+        return false;
+    }
+    true
 }
 
 // Whether a block is a home block. What is cheap to see is seen first.
@@ -89,7 +103,10 @@ pub fn is_home(b: &[u8]) -> bool
         return false;
     }
     let sum = checksum(b, 255);
-    sum == word_at(b, 510)
+    if sum != word_at(b, 510) {
+        return false;
+    }
+    true
 }
 
 // The LBN of home position i, from 0.

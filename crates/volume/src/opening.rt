@@ -11,8 +11,10 @@ use answer::types::Lbn;
 use header::fields::h_fseq;
 use header::fields::m_efnu;
 use header::fields::segment;
+use header::pointers::Place;
 use header::pointers::block_count;
 use header::pointers::first_pointer;
+use header::pointers::place_of;
 use header::pointers::pointer_count;
 use header::pointers::pointer_lbn;
 use header::pointers::pointer_number;
@@ -21,15 +23,17 @@ use image::blocks::block;
 use image::words::byte_or_zero;
 ghost use mathlib.Core.Path.{_≡_};
 ghost use Prim.Native.Nat.{_+_, _≤_, _<_, _^_, min};
-ghost use mathlib.Core.Bool.{_&&_};
+ghost use mathlib.Core.Bool.{true, _&&_};
 ghost use lib.Dec.{eqb, leb};
-ghost use lib.ListN.{length};
+ghost use lib.ListN.{length, getD};
+ghost use Rattle.image.specs.Words.{byteAt};
+ghost use Rattle.image.specs.Blocks.{block};
 ghost use Rattle.answer.specs.declared.outcome.Outcome.the-variants as outcome;
 ghost use Rattle.image.specs.First.{below};
 ghost use Rattle.header.specs.Pointers.{Fits, blocksOf};
-ghost use Rattle.volume.specs.Home.{hIbsz, hIblb, hFmax};
-ghost use Rattle.volume.specs.Volume.{volumeOf};
-ghost use Rattle.volume.specs.Opening.{sized, indexMapBlocks, indexLbn, alone, indexMapped, storageMapped, openVolume, volumeAnswer};
+ghost use Rattle.volume.specs.Home.{hIbsz, hIblb, hFmax, blocks, home};
+ghost use Rattle.volume.specs.Volume.{mapBlocks, volumeOf};
+ghost use Rattle.volume.specs.Opening.{sized, homed, indexMapBlocks, indexLbn, alone, indexMapped, storageMapped, openVolume, volumeAnswer};
 
 // The answer of opening a volume.
 pub enum Opened {
@@ -186,5 +190,119 @@ fn is_storage_mapped(h: &[u8], q: u32) -> bool
     if number != 2 {
         return false;
     }
-    pointer_count(h, first_pointer(h)) == 1
+    if pointer_count(h, first_pointer(h)) != 1 {
+        return false;
+    }
+    true
+}
+
+// The LBN of block i, from 0, of a header; 0 past the last.
+fn lbn_at(h: &[u8], i: u32) -> u32
+    requires { ⌜ Fits (now h) ⌝ }
+    ensures { λ r. ⌜ r ≡ getD (blocksOf (now (h .entry))) i 0 ⌝ }
+{
+    let place = place_of(h, i);
+    match place {
+        Place::At(l) => l.0,
+        Place::Past(_) => 0,
+    }
+}
+
+// Whether header 1 is the index file's, on a volume of so many blocks.
+fn is_indexed(h: &[u8], blocks: u32, home: u32, iblb: u32, m: u32) -> bool
+    requires { ⌜ (length (now h) ≡ 512) × (iblb < 2 ^ 31) × (m ≤ 65535) ⌝ }
+    ensures { λ r. ⌜ r ≡ (alone blocks 1 (now (h .entry)) && indexMapped home iblb m (blocksOf (now (h .entry)))) ⌝ }
+{
+    let alone = is_alone(h, blocks, 1);
+    if !alone {
+        return false;
+    }
+    is_index_mapped(h, home, iblb, m)
+}
+
+// Whether header 2 is the storage map file's, on a volume of so many blocks.
+fn is_stored(image: &[u8], h: &[u8], blocks: u32) -> bool
+    requires { ⌜ (length (now h) ≡ 512) × (blocks ≤ 1044480) ⌝ }
+    ensures { λ r. ⌜ r ≡ (alone blocks 2 (now (h .entry))
+        && storageMapped (mapBlocks blocks) (now (h .entry))
+        && eqb (byteAt (block (now (image .entry)) (getD (blocksOf (now (h .entry))) 0 0)) 3) (mapBlocks blocks)) ⌝ }
+{
+    let alone = is_alone(h, blocks, 2);
+    if !alone {
+        return false;
+    }
+    let q = (blocks + 4095) / 4096;
+    let mapped = is_storage_mapped(h, q);
+    if !mapped {
+        return false;
+    }
+    let first = block(image, lbn_at(h, 0));
+    let control = byte_or_zero(first, 3);
+    (control as u32) == q
+}
+
+// Opens a volume of n blocks whose home lies at a known LBN.
+fn open_at(image: &[u8], n: u32, at: u32) -> OpenVolume
+    requires { ⌜ (sized (now image) ≡ true) × (homed (now image) ≡ true) × (n ≡ blocks (now image)) × (at ≡ home (now image)) ⌝ }
+    ensures { λ r. ⌜ (r .outcome ≡ openVolume (now (image .entry)))
+        × (openVolume (now (image .entry)) ≡ outcome.Passed → r .volume ≡ volumeOf (now (image .entry))) ⌝ }
+{
+    let b = block(image, at);
+    let fit = has_geometry(b, n);
+    if !fit {
+        return refused(Refusal::Geometry);
+    }
+    let ibsz = h_ibsz(b) as u32;
+    let iblb = h_iblb(b);
+    let fmax = h_fmax(b) as u32;
+    let indexed = is_indexed(block(image, iblb + ibsz), n, at, iblb, ibsz);
+    if !indexed {
+        return refused(Refusal::Index);
+    }
+    let h = block(image, iblb + ibsz + 1);
+    let stored = is_stored(image, h, n);
+    if !stored {
+        return refused(Refusal::Storage);
+    }
+    let base = lbn_at(h, 1);
+    OpenVolume {
+        outcome: Outcome::Passed,
+        volume: Volume {
+            blocks: n,
+            home: at,
+            ibsz,
+            iblb,
+            fmax,
+            base,
+        },
+    }
+}
+
+// Opens a volume.
+pub fn open(image: &[u8]) -> OpenVolume
+    ensures { λ r. ⌜ (r .outcome ≡ openVolume (now (image .entry)))
+        × (openVolume (now (image .entry)) ≡ outcome.Passed → r .volume ≡ volumeOf (now (image .entry))) ⌝ }
+{
+    let sized = is_sized(image);
+    if !sized {
+        return refused(Refusal::Size);
+    }
+    let blocks = (image.len() / 512) as u32;
+    let i = home_index(image, blocks);
+    if (blocks + 255) / 256 <= i {
+        return refused(Refusal::Home);
+    }
+    open_at(image, blocks, position(i))
+}
+
+// The answer of opening a volume.
+pub fn open_volume(image: &[u8]) -> Opened
+    ensures { λ r. ⌜ r ≡ volumeAnswer (now (image .entry)) ⌝ }
+{
+    let o = open(image);
+    let result = o.outcome;
+    match result {
+        Outcome::Passed => Opened::Done(Lbn(o.volume.home)),
+        Outcome::Refused(r) => Opened::Refused(r),
+    }
 }

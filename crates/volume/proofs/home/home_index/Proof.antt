@@ -59,16 +59,5 @@ returns-2 c =
 pub home-index-spec : {M : Type 1} → statement M
 home-index-spec =
     tie.close
-    (tie.spec
-    Inv-loop
-    μ-loop
-    (search needs)
-    loop-holds
-    (search needs)
-    (search needs)
-    is-home-requires
-    returns
-    (search needs)
-    (search needs)
-    loop-again
-    returns-2)
+    (tie.spec Inv-loop μ-loop (search needs) loop-holds (search needs) (search needs) is-home-requires returns (search needs) (search needs)
+    loop-again returns-2)

@@ -1,8 +1,11 @@
 -- The tests are made in another order than the definition's.
 use borrow.Author.Needs.{needs}
-use denote.Ref.{now}
+use native.Mathlib.Omega.{arith}
 use mathlib.Core.Bool.{and-false}
+use denote.Ref.{now}
 use borrow.Author.Tests.{not-true, not-false, eq-eqb, ne-eqb}
+use Rattle.image.specs.Words.{wordAt}
+use Rattle.image.specs.Sums.{checksum}
 use Rattle.volume.proofs.HomeLaws.{isHome-by}
 use Rattle.volume.proofs.home.is_home.Statement.{statement}
 use Rattle.volume.proofs.home.is_home.Tie as tie
@@ -20,30 +23,25 @@ returns-2 c =
 
 returns-3 : tie.Need-returns-3
 returns-3 c =
-    let w = c .before in
-    let s = w .before in
-    let f = s .before .before .before .before in
-    rw (isHome-by (now (f .before .before .args .b)), ← s .checksum .ensures, ← w .word-at .ensures, ne-eqb (s .checksum .result) (w .word-at .result) (c .if3 .taken), and-false, and-false)
+    let f = c .before .before .before .before .before .before in
+    let b = now (f .before .before .args .b) in
+    rw (isHome-by b, ne-eqb (checksum b 29) (wordAt b 58) (omega arith), and-false, and-false)
 
 returns-4 : tie.Need-returns-4
 returns-4 c =
-    let s = c .before in
-    let w = s .before .before in
-    let l = w .before .before .before in
+    let f = c .before .before .before .before .before .before .before .before .before in
+    let b = now (f .before .before .args .b) in
+    rw (isHome-by b, ne-eqb (checksum b 255) (wordAt b 510) (omega arith), and-false, and-false, and-false)
+
+returns-5 : tie.Need-returns-5
+returns-5 c =
+    let l = c .before .before .before .before .before .before .before in
     let f = l .before .before in
-    rw (isHome-by (now (f .before .before .args .b)), ← f .has-home-fields .ensures, not-false (f .has-home-fields .result) (l .before .if1 .left), ← l .is-labelled .ensures, not-false (l .is-labelled .result) (w .before .before .if2 .left), ← w .before .checksum .ensures, ← w .word-at .ensures, eq-eqb (w .before .checksum .result) (w .word-at .result) (s .before .if3 .left), ← s .checksum2 .ensures, ← c .word-at2 .ensures)
+    let b = now (f .before .before .args .b) in
+    rw (isHome-by b, ← f .has-home-fields .ensures, not-false (f .has-home-fields .result) (l .before .if1 .left), ← l .is-labelled .ensures, not-false (l .is-labelled .result) (c .before .before .before .before .before .before .if2 .left), eq-eqb (checksum b 29) (wordAt b 58) (omega arith), eq-eqb (checksum b 255) (wordAt b 510) (omega arith))
 
 pub is-home-spec : {M : Type 1} → statement M
 is-home-spec =
     tie.close
-    (tie.spec
-    (search needs)
-    returns
-    (search needs)
-    returns-2
-    (search needs)
-    (search needs)
-    returns-3
-    (search needs)
-    (search needs)
-    returns-4)
+    (tie.spec (search needs) returns (search needs) returns-2 (search needs) (search needs) returns-3 (search needs) (search needs) returns-4
+    returns-5)

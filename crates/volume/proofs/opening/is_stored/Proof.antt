@@ -1,0 +1,51 @@
+-- A whole header has its pointers in it.
+use borrow.Author.Needs.{needs}
+use native.Mathlib.Omega.{arith}
+use mathlib.Core.Path.{sym, _∙_}
+use mathlib.Core.Bool.{and-false}
+use denote.Ref.{now}
+use borrow.Author.Tests.{not-true, not-false}
+use Rattle.header.specs.Pointers.{Fits}
+use Rattle.header.proofs.WholeLaws.{whole-fits}
+use Rattle.volume.specs.Volume.{mapBlocks}
+use Rattle.volume.proofs.VolumeLaws.{alone-gives}
+use Rattle.volume.proofs.opening.is_stored.Statement.{statement}
+use Rattle.volume.proofs.opening.is_stored.Tie as tie
+
+fits : (c : tie.Else1) → Fits (now (c .before .before .before .before .args .h))
+fits c =
+    let r = c .before in
+    let a = r .before .before .before .args in
+    let h = now (a .h) in
+    whole-fits (a .blocks) 2 h (omega arith) (alone-gives (a .blocks) 2 h (sym (r .is-alone .ensures) ∙ not-false (r .is-alone .result) (c .if1 .left)) .whole)
+
+returns : tie.Need-returns
+returns c =
+    let r = c .before in
+    rw (← r .is-alone .ensures, not-true (r .is-alone .result) (c .if1 .taken))
+
+is-storage-mapped-requires : tie.Need-is-storage-mapped-requires
+is-storage-mapped-requires c κs = (fits c, omega arith)
+
+returns-2 : tie.Need-returns-2
+unfolding mapBlocks
+returns-2 c =
+    let m = c .before in
+    rw (← m .is-storage-mapped .ensures, not-true (m .is-storage-mapped .result) (c .if2 .taken), and-false)
+
+lbn-at-requires : tie.Need-lbn-at-requires
+lbn-at-requires c κs = fits (c .before .before)
+
+returns-3 : tie.Need-returns-3
+unfolding mapBlocks
+returns-3 c =
+    let l = c .before .before in
+    let m = l .before .before in
+    let r = m .before .before in
+    rw (← r .is-alone .ensures, not-false (r .is-alone .result) (m .before .if1 .left), ← m .is-storage-mapped .ensures, not-false (m .is-storage-mapped .result) (l .before .if2 .left), ← l .lbn-at .ensures, ← c .before .block .ensures, ← c .byte-or-zero .ensures)
+
+pub is-stored-spec : {M : Type 1} → statement M
+is-stored-spec =
+    tie.close
+    (tie.spec (search needs) returns (search needs) is-storage-mapped-requires returns-2 lbn-at-requires (search needs) (search needs) (search needs)
+    returns-3)
