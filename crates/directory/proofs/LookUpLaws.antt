@@ -1,11 +1,11 @@
 -- Laws of looking a name up and of a walk's next record: what the answer is in each case.
-use mathlib.Core.Path.{_≡_, refl, sym, ap, _∙_}
+use mathlib.Core.Path.{_≡_, refl}
 use mathlib.Core.Bool.{true, false}
 use mathlib.Core.List.{List}
-use Prim.Native.Nat.{ℕ, _+_, _*_, _-_, _/_, _%_, _≤_, _<_}
+use Prim.Native.Nat.{ℕ, _+_, _*_, _-_, _≤_, _<_}
 use native.Mathlib.Omega.{arith}
 use borrow.Author.Tests.{lt-ltb, le-ltb}
-use lib.ListN.{length}
+use lib.ListN.{length, getD}
 use Rattle.image.proofs.First.{first-none}
 use Rattle.answer.specs.declared.types.FileId.{FileId}
 use Rattle.answer.specs.declared.types.Name.{Name}
@@ -14,10 +14,15 @@ use Rattle.answer.specs.declared.refusal.Refusal.the-variants as refusal
 use Rattle.answer.specs.declared.outcome.Outcome.the-variants.{Passed, Refused}
 use Rattle.answer.specs.Outcome.{unless, _then_}
 use Rattle.radix50.specs.Names.{proper}
+use Rattle.volume.specs.Volume.{volumeOf}
+use Rattle.volume.specs.declared.volume.Volume.{Volume}
+use Rattle.volume.proofs.VolumeLaws.{opens}
 use Rattle.file.specs.Chains.{fileBlocks}
 use Rattle.file.specs.Opening.{openFile}
+use Rattle.file.proofs.SizeLaws.{file-below}
+use Rattle.file.proofs.OpeningLaws.{opened}
 use Rattle.directory.specs.Records.{wantedAt, recordCount}
-use Rattle.directory.specs.Search.{searchIn}
+use Rattle.directory.specs.Search.{searchIn, FileOpen}
 use Rattle.directory.specs.LookUp.{firstWanted, entryOfFile, findName, foundEntry, lookUp, orAbsent, findNext, steppedTo, nextRecord}
 use Rattle.directory.specs.declared.records.Wanted.{Wanted}
 use Rattle.directory.specs.declared.records.Wanted.the-variants.{Any, Named}
@@ -25,15 +30,30 @@ use Rattle.directory.specs.declared.look_up.Found.the-variants as found
 use Rattle.directory.specs.declared.next.Stepped.the-variants as stepped
 use Rattle.directory.proofs.SearchLaws.{search-all}
 
--- The directory's records lie in its blocks.
-pub records-inside : (image : List ℕ) (n : ℕ) → recordCount image n ≤ 32 * length (fileBlocks image n)
-unfolding recordCount
-records-inside image n = omega arith
+-- What opening a file gives to those who read it: the file is open, and each of its blocks lies in the image.
+pub opened-file : (image : List ℕ) (v : Volume) (id : FileId) → openFile image id ≡ Passed → v ≡ volumeOf image → FileOpen image v (id .number)
+opened-file image v id e is =
+    let o = opened image id e in
+    ((o .volume, is), o .found .first, o .chain)
 
--- The first record wanted is what a search of the file finds.
-pub wanted-search : (image : List ℕ) (n : ℕ) (w : Wanted) (place : ℕ) → firstWanted image n w place ≡ searchIn image (fileBlocks image n) w place (recordCount image n)
+pub block-inside : (image : List ℕ) (v : Volume) (n : ℕ) → FileOpen image v n → (i : ℕ) → i < length (fileBlocks image n) → 512 * getD (fileBlocks image n) i 0 + 512 ≤ length image
+block-inside image v n (o, first, good) i l = omega (arith, opens image (o .0) .size, file-below image n first good i l)
+
+-- The directory's records lie in its blocks.
+pub records-count : (image : List ℕ) (n : ℕ) → recordCount image n ≡ 32 * length (fileBlocks image n)
+unfolding recordCount
+records-count image n = refl
+
+pub records-inside : (image : List ℕ) (n : ℕ) → recordCount image n ≤ 32 * length (fileBlocks image n)
+records-inside image n = omega (arith, records-count image n)
+
+-- The first record wanted is what a search of the file's records finds.
+pub search-wanted :
+    (image : List ℕ) (n : ℕ) (w : Wanted) (place count r : ℕ) → count ≡ recordCount image n → r ≡ searchIn image (fileBlocks image n) w place count
+    → r ≡ firstWanted image n w place
 unfolding firstWanted
-wanted-search image n w place = sym (search-all image (fileBlocks image n) w place (recordCount image n) (records-inside image n))
+search-wanted image n w place count r e found =
+    rw (found, e) (search-all image (fileBlocks image n) w place (recordCount image n) (records-inside image n))
 
 -- There is none from a place on that lies past the last record.
 pub wanted-past : (image : List ℕ) (n : ℕ) (w : Wanted) (place : ℕ) → recordCount image n ≤ place → firstWanted image n w place ≡ place

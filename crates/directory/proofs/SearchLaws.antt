@@ -11,9 +11,13 @@ use Rattle.image.proofs.Numbers.{numbersFrom-length, numbersFrom-at}
 use Rattle.image.specs.Blocks.{block}
 use Rattle.image.specs.First.{first}
 use Rattle.image.proofs.First.{first-has, first-none, first-found, first-past, first-shift, first-same}
-use Rattle.header.specs.Pointers.{pointerLbn, pointerCount, runs, pointersAt, pointers}
+use Rattle.header.specs.Pointers.{pointerLbn, pointerCount, runs, pointersAt, pointers, blocksOf}
 use Rattle.volume.specs.Home.{blocks}
 use Rattle.header.proofs.PointerLaws.{runs-length, runs-le, runs-at}
+use Rattle.header.proofs.WholeLaws.{whole-is}
+use Rattle.volume.specs.Volume.{header, faultOf}
+use Rattle.file.specs.Chains.{fileBlocks}
+use Rattle.file.proofs.ChainLaws.{Walk, walk-inside, walk-here}
 use Rattle.directory.specs.Records.{entryAt, wantedAt}
 use Rattle.directory.specs.Search.{wantedIn, searchIn, Inside}
 use Rattle.directory.specs.declared.records.Wanted.{Wanted}
@@ -81,6 +85,15 @@ pointer-part h at p n l = record {
 pub pointer-inside : (image h : List ℕ) (at p : ℕ) → Inside image h → at ≡ pointersAt h → p < pointers h → 512 * (pointerLbn h (at + 4 * p) + pointerCount h (at + 4 * p)) ≤ length image
 unfolding blocks
 pointer-inside image h at p inside e l = rw e (omega (arith, inside p l))
+
+-- A header of a file's chain: its blocks stand in the file's, and lie in the image.
+module _ (image : List ℕ) (n : ℕ) (h : List ℕ) (d : ℕ) (at : Walk image n h d) where
+  pub walk-part : Part (fileBlocks image n) d (blocksOf h)
+  walk-part = record { inside = walk-inside image n h d at; each = walk-here image n h d at }
+
+  pub walk-pointers : Inside image h
+  unfolding faultOf
+  walk-pointers = rw (at .is) at (whole-is (blocks image) (at .number) (header image (at .number)) (at .whole) .ends)
 
 -- A search that has come to a part of so many blocks, which begins at record start: it finds r in the part, counted from there.
 pub record Turn (image lbns : List ℕ) (w : Wanted) (from to start size r : ℕ) : Type 0 where

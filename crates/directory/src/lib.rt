@@ -3,4 +3,4 @@
 pub mod look_up;
 pub mod next;
 pub mod records;
-pub mod search;
+mod search;

@@ -61,7 +61,7 @@ loop-again : tie.Need-loop-again Inv-loop μ-loop
 loop-again c =
     let l = c .before .before .before .before .before in
     let more = runs-length (now (l .before .before .before .before .before .args .h)) (l .before .before .first-pointer .result) (l .loop .p) in
-    (search needs, omega (arith, more), search needs, search needs, search needs, l .loop .inv .5 ∙ turn (c .before) .on (omega arith))
+    (omega arith, omega (arith, more), search needs, search needs, search needs, l .loop .inv .5 ∙ turn (c .before) .on (omega arith))
 
 returns-2 : tie.Need-returns-2 Inv-loop μ-loop
 returns-2 c =
