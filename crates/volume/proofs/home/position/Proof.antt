@@ -10,7 +10,7 @@ returns : tie.Need-returns
 returns c = omega (arith, position-first, ap position (c .if1 .taken))
 
 returns-2 : tie.Need-returns-2
-returns-2 c = sym (position-later (c .before .args .i) (omega arith))
+returns-2 c = omega (arith, position-later (c .before .args .i) (omega arith))
 
 pub position-spec : {M : Type 1} → statement M
 position-spec = tie.close (tie.spec (search needs) returns returns-2)

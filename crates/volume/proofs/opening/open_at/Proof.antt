@@ -184,7 +184,7 @@ returns-4 c =
         ibsz = ibsz-read (f .before .before);
         iblb = iblb-read (f .before);
         fmax = fmax-read f;
-        base = c .lbn-at .ensures ∙ ap (λ (h : List ℕ). getD (blocksOf h) 1 0) (header2-read (t .before .before));
+        base = c .lbn-at .ensures ∙ ap₂ (λ (h : List ℕ) (i : ℕ). getD (blocksOf h) i 0) (header2-read (t .before .before)) (omega arith);
       }),
     )
 
