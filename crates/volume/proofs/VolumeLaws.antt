@@ -29,7 +29,7 @@ use Rattle.volume.specs.Volume.{ibsz, iblb, fmax, indexHeader, index, sl
 use Rattle.volume.specs.declared.volume.Volume.{Volume}
 use Rattle.volume.specs.declared.volume.Slot.{Slot}
 use Rattle.volume.specs.declared.volume.Slot.the-variants.{At, Missing}
-use Rattle.volume.specs.Opening.{sized, homed, indexMapBlocks, geometry, alone, indexLbn, indexAt, indexMapped, indexed, storageMapped, stored, openVolume}
+use Rattle.volume.specs.Opening.{sized, homed, indexMapBlocks, geometry, alone, indexLbn, indexAt, indexMapped, indexed, storageMapped, stored, openVolume, Laid}
 use Rattle.volume.proofs.OpeningLaws.{three, sized-is, geometry-is, home-inside, passed-first, passed-last, indexLbn-boot, indexLbn-home, indexLbn-row, storage-long, storage-row}
 
 -- A header that stands alone: whole, of its number and sequence, segment 0, without extension.
@@ -136,6 +136,32 @@ unfolding slot
 index-slot image file n l h =
     ap (λ (i : ℕ). getD (index image) i 0) (omega arith) ∙ file .row (ibsz image + (n - 1)) (omega arith) ∙ omega arith
 
+-- What opening reads once the geometry is right.
+module _ (image : List ℕ) (v : Volume) (l : Laid image v) where
+  pub laid-room : sized image ≡ true → geometry image ≡ true → (v .iblb + v .ibsz + 16 ≤ v .blocks) × (v .blocks ≤ 1044480)
+  laid-room s g = (omega (arith, geometry-is image g .2, l .iblb, l .ibsz, l .blocks), omega (arith, sized-is image s .2, l .blocks))
+
+  pub laid-length : sized image ≡ true → geometry image ≡ true → (k : ℕ) → k < v .iblb + v .ibsz + 16 → length (block image k) ≡ 512
+  laid-length s g k h = block-length image k (omega (arith, sized-is image s .0, laid-room s g .0, l .blocks))
+
+  pub laid-header1 : block image (v .iblb + v .ibsz) ≡ indexHeader image
+  unfolding indexHeader
+  laid-header1 = rw (l .iblb, l .ibsz)
+
+  pub laid-indexed : (alone (v .blocks) 1 (indexHeader image) && indexMapped (v .home) (v .iblb) (v .ibsz) (blocksOf (indexHeader image))) ≡ indexed image
+  unfolding indexed index
+  laid-indexed = rw (l .blocks, l .home, l .iblb, l .ibsz)
+
+  pub laid-header2 : indexed image ≡ true → block image (v .iblb + v .ibsz + 1) ≡ header image 2
+  unfolding header
+  laid-header2 t = ap (block image) (omega (arith, l .iblb, l .ibsz, index-slot image (indexed-gives image t .1) 2 (omega arith) (omega arith)))
+
+  pub laid-stored : (alone (v .blocks) 2 (header image 2)
+      && storageMapped (mapBlocks (v .blocks)) (header image 2)
+      && eqb (byteAt (block image (getD (blocksOf (header image 2)) 0 0)) 3) (mapBlocks (v .blocks))) ≡ stored image
+  unfolding stored
+  laid-stored = rw (l .blocks)
+
 module _ {image : List ℕ} (o : Opens image) where
   pub home-below : home image < blocks image
   home-below = home-inside image (o .least) (o .found)
@@ -212,34 +238,28 @@ unfolding fmax hFmax
 fmax-below image bytes = word-below (block image (home image)) (block-bytes image (home image) bytes) 6
 
 -- What calls on an opened volume know of it.
-pub record Says (image : List ℕ) (v : Volume) : Type 0 where
-  pub blocks : v .blocks ≡ blocks image
-  pub home : v .home ≡ home image
-  pub ibsz : v .ibsz ≡ ibsz image
-  pub iblb : v .iblb ≡ iblb image
-  pub fmax : v .fmax ≡ fmax image
-  pub base : v .base ≡ base image
-
-pub says : (image : List ℕ) (v : Volume) → v ≡ volumeOf image → Says image v
+pub says : (image : List ℕ) (v : Volume) → v ≡ volumeOf image → Laid image v × (v .base ≡ base image)
 unfolding volumeOf
-says image v e = record {
-  blocks = ap (λ (v : Volume). v .blocks) e;
-  home = ap (λ (v : Volume). v .home) e;
-  ibsz = ap (λ (v : Volume). v .ibsz) e;
-  iblb = ap (λ (v : Volume). v .iblb) e;
-  fmax = ap (λ (v : Volume). v .fmax) e;
-  base = ap (λ (v : Volume). v .base) e;
-}
+says image v e = (
+  record {
+    blocks = ap (λ (v : Volume). v .blocks) e;
+    home = ap (λ (v : Volume). v .home) e;
+    ibsz = ap (λ (v : Volume). v .ibsz) e;
+    iblb = ap (λ (v : Volume). v .iblb) e;
+    fmax = ap (λ (v : Volume). v .fmax) e;
+  },
+  ap (λ (v : Volume). v .base) e,
+)
 
-pub says-all : (image : List ℕ) (v : Volume) → Says image v → v ≡ volumeOf image
+pub says-all : (image : List ℕ) (v : Volume) → Laid image v → v .base ≡ base image → v ≡ volumeOf image
 unfolding volumeOf
-says-all image v s = λ i. record {
+says-all image v s e = λ i. record {
   blocks = s .blocks i;
   home = s .home i;
   ibsz = s .ibsz i;
   iblb = s .iblb i;
   fmax = s .fmax i;
-  base = s .base i;
+  base = e i;
 }
 
 -- The slot of a number by its place in the index file.

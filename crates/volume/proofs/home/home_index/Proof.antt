@@ -6,7 +6,7 @@ use Prim.Native.Nat.{_+_, _/_, _-_, _≤_}
 use denote.Ref.{now}
 use Rattle.image.specs.Blocks.{block}
 use Rattle.image.specs.First.{first}
-use Rattle.image.proofs.First.{first-start, first-here, first-on, first-none}
+use Rattle.image.proofs.First.{first-here, first-on, first-none}
 use Rattle.image.proofs.BlockLaws.{block-length}
 use Rattle.volume.specs.Home.{position, positions, homeAt, homeIndex}
 use Rattle.volume.proofs.HomeLaws.{position-below, homeIndex-by}

@@ -1,6 +1,6 @@
 use borrow.Author.Needs.{needs}
 use native.Mathlib.Omega.{arith}
-use mathlib.Core.Path.{sym, ap}
+use mathlib.Core.Path.{ap}
 use Rattle.volume.specs.Home.{position}
 use Rattle.volume.proofs.HomeLaws.{position-first, position-later}
 use Rattle.volume.proofs.home.position.Statement.{statement}
