@@ -1,18 +1,18 @@
 -- What an image that opens is known to have.
-use mathlib.Core.Path.{_≡_, ap, _∙_}
+use mathlib.Core.Path.{_≡_, sym, ap, _∙_}
 use mathlib.Core.Bool.{true, _&&_, and-eq-true-iff}
 use mathlib.Core.List.{List}
 use native.Mathlib.Numerals.{add-one}
 use Prim.Native.Nat.{ℕ, zero, suc, _+_, _*_, _-_, _≤_, _<_}
 use native.Mathlib.Decide.{decLt}
 use native.Mathlib.Omega.{arith}
-use borrow.Author.Tests.{le-leb, lt-leb, eqb-true, leb-true, ltb-true}
+use borrow.Author.Tests.{eqb-true, leb-true, ltb-true, eq-eqb, le-leb, lt-leb, lt-ltb}
 use lib.Dec.{eqb, leb}
 use lib.ListN.{length, getD}
 use Rattle.image.specs.Words.{byteAt, Bytes}
 use Rattle.image.specs.Blocks.{block}
 use Rattle.image.specs.First.{below}
-use Rattle.image.proofs.Below.{below-at}
+use Rattle.image.proofs.Below.{below-at, below-all}
 use Rattle.image.proofs.WordLaws.{word-below}
 use Rattle.image.proofs.BlockLaws.{region-length, block-length, block-bytes}
 use Rattle.answer.specs.declared.refusal.Refusal.the-variants as refusal
@@ -30,7 +30,7 @@ use Rattle.volume.specs.declared.volume.Volume.{Volume}
 use Rattle.volume.specs.declared.volume.Slot.{Slot}
 use Rattle.volume.specs.declared.volume.Slot.the-variants.{At, Missing}
 use Rattle.volume.specs.Opening.{sized, homed, indexMapBlocks, geometry, alone, indexLbn, indexAt, indexMapped, indexed, storageMapped, stored, openVolume, Laid}
-use Rattle.volume.proofs.OpeningLaws.{three, sized-is, geometry-is, home-inside, passed-first, passed-last, indexLbn-boot, indexLbn-home, indexLbn-row, storage-long, storage-row}
+use Rattle.volume.proofs.OpeningLaws.{open-passed, three, sized-is, geometry-is, home-inside, passed-first, passed-last, indexLbn-boot, indexLbn-home, indexLbn-row, storage-long, storage-row}
 
 -- A header that stands alone: whole, of its number and sequence, segment 0, without extension.
 pub record Alone (total n : ℕ) (h : List ℕ) : Type 0 where
@@ -73,6 +73,11 @@ alone-gives total n h t =
       last = eqb-true (mEfnu h) 0 (s .1);
     }
 
+pub alone-holds : (total n : ℕ) (h : List ℕ) → Alone total n h → alone total n h ≡ true
+unfolding alone
+alone-holds total n h a =
+    rw (eq-eqb (fault total n h) 0 (a .whole), eq-eqb (hFseq h) n (a .sequence), eq-eqb (segment h) 0 (a .first), eq-eqb (mEfnu h) 0 (a .last))
+
 pub index-gives : (home iblb m : ℕ) (lbns : List ℕ) → indexMapped home iblb m lbns ≡ true → Index home iblb m lbns
 unfolding indexMapped indexAt
 index-gives home iblb m lbns t =
@@ -85,6 +90,19 @@ index-gives home iblb m lbns t =
       homed = at 1 (omega arith) ∙ indexLbn-home home iblb;
       row = λ i l. at (2 + i) (omega arith) ∙ indexLbn-row home iblb (2 + i) (omega arith) ∙ omega arith;
     }
+
+pub index-holds : (home iblb m : ℕ) (lbns : List ℕ) → Index home iblb m lbns → indexMapped home iblb m lbns ≡ true
+unfolding indexMapped indexAt
+index-holds home iblb m lbns f =
+    rw (le-leb (m + 18) (length lbns) (f .long))
+    (below-all (m + 18) (indexAt home iblb lbns) (λ i l. eq-eqb (getD lbns i 0) (indexLbn home iblb i) (at i l)))
+  where
+    at : (i : ℕ) → i < m + 18 → getD lbns i 0 ≡ indexLbn home iblb i
+    at zero l = f .boot ∙ sym (indexLbn-boot home iblb)
+    at (suc zero) l = f .homed ∙ sym (indexLbn-home home iblb)
+    at (suc (suc i)) l =
+        let e : suc (suc i) ≡ 2 + i = omega arith in
+        rw e (f .row i (omega arith) ∙ omega (arith, indexLbn-row home iblb (2 + i) (omega arith)))
 
 -- Header 1 and header 2 as the tests have them.
 pub indexed-gives : (image : List ℕ) → indexed image ≡ true → Alone (blocks image) 1 (indexHeader image) × Index (home image) (iblb image) (ibsz image) (index image)
@@ -129,6 +147,18 @@ opens image e =
       shape = map .1;
       control = map .2;
     }
+
+-- An image that has all of that opens.
+pub opens-all : (image : List ℕ) → Opens image → openVolume image ≡ Passed
+unfolding sized homed geometry indexed stored
+opens-all image o =
+    let n = blocks image in
+    open-passed image
+    (rw (eq-eqb (length image) (512 * n) (o .size), le-leb 100 n (o .least), le-leb n 1044480 (o .most)))
+    (lt-ltb (homeIndex image) (positions n) (o .found))
+    (rw (le-leb 16 (fmax image) (o .enough), eq-eqb (ibsz image) (indexMapBlocks (fmax image)) (o .maps), le-leb (iblb image + ibsz image + 16) n (o .fits)))
+    (rw (alone-holds n 1 (indexHeader image) (o .index-header)) (index-holds (home image) (iblb image) (ibsz image) (index image) (o .index-file)))
+    (rw (alone-holds n 2 (header image 2) (o .storage-header), o .shape) (eq-eqb (byteAt (block image (getD (blocksOf (header image 2)) 0 0)) 3) (mapBlocks n) (o .control)))
 
 -- The slots of the first sixteen numbers.
 pub index-slot : (image : List ℕ) → Index (home image) (iblb image) (ibsz image) (index image) → (n : ℕ) → 1 ≤ n → n ≤ 16 → slot image n ≡ iblb image + ibsz image + (n - 1)
