@@ -268,18 +268,19 @@ unfolding fmax hFmax
 fmax-below image bytes = word-below (block image (home image)) (block-bytes image (home image) bytes) 6
 
 -- What calls on an opened volume know of it.
-pub says : (image : List ℕ) (v : Volume) → v ≡ volumeOf image → Laid image v × (v .base ≡ base image)
+pub says : (image : List ℕ) (v : Volume) → v ≡ volumeOf image → Laid image v
 unfolding volumeOf
-says image v e = (
-  record {
-    blocks = ap (λ (v : Volume). v .blocks) e;
-    home = ap (λ (v : Volume). v .home) e;
-    ibsz = ap (λ (v : Volume). v .ibsz) e;
-    iblb = ap (λ (v : Volume). v .iblb) e;
-    fmax = ap (λ (v : Volume). v .fmax) e;
-  },
-  ap (λ (v : Volume). v .base) e,
-)
+says image v e = record {
+  blocks = ap (λ (v : Volume). v .blocks) e;
+  home = ap (λ (v : Volume). v .home) e;
+  ibsz = ap (λ (v : Volume). v .ibsz) e;
+  iblb = ap (λ (v : Volume). v .iblb) e;
+  fmax = ap (λ (v : Volume). v .fmax) e;
+}
+
+pub says-base : (image : List ℕ) (v : Volume) → v ≡ volumeOf image → v .base ≡ base image
+unfolding volumeOf
+says-base image v e = ap (λ (v : Volume). v .base) e
 
 pub says-all : (image : List ℕ) (v : Volume) → Laid image v → v .base ≡ base image → v ≡ volumeOf image
 unfolding volumeOf

@@ -14,7 +14,7 @@ returns c =
     let o = c .before .before in
     let image = now (o .before .before .args .image) in
     let e = sym (o .«open» .ensures .0) ∙ c .enum-told .given .1 in
-    rw (e, ← says image (o .«open» .result .volume) (o .«open» .ensures .1 e) .0 .home)
+    rw (e, ← says image (o .«open» .result .volume) (o .«open» .ensures .1 e) .home)
 
 returns-2 : tie.Need-returns-2
 unfolding volumeAnswer openedVolume

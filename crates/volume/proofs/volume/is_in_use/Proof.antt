@@ -19,7 +19,7 @@ map-read : (c : tie.After-region) → now (c .region .result) ≡ indexMap (now 
 unfolding indexMap
 map-read c =
     let s = c .before .before .before .before .before in
-    let v = says (now (s .args .image)) (s .args .v) (s .pre .1) .0 in
+    let v = says (now (s .args .image)) (s .args .v) (s .pre .1) in
     c .region .ensures ∙ ap₂ (region (now (s .args .image))) (v .iblb) (v .ibsz)
 
 returns : tie.Need-returns
@@ -30,7 +30,7 @@ returns-2 : tie.Need-returns-2
 unfolding inUse
 returns-2 c =
     let s = c .before .before .before .before in
-    rw (lt-leb (s .args .n .0) (fmax (now (s .args .image))) (omega (arith, says (now (s .args .image)) (s .args .v) (s .pre .1) .0 .fmax)), and-false)
+    rw (lt-leb (s .args .n .0) (fmax (now (s .args .image))) (omega (arith, says (now (s .args .image)) (s .args .v) (s .pre .1) .fmax)), and-false)
 
 bit-at-requires : tie.Need-bit-at-requires
 unfolding indexMapBlocks
@@ -38,7 +38,7 @@ bit-at-requires c κs =
     let s = c .before .before .before .before .before in
     let image = now (s .args .image) in
     let o = opens image (s .pre .0) in
-    omega (arith, ap length (map-read c), indexMap-length o, o .maps, says image (s .args .v) (s .pre .1) .0 .fmax)
+    omega (arith, ap length (map-read c), indexMap-length o, o .maps, says image (s .args .v) (s .pre .1) .fmax)
 
 returns-3 : tie.Need-returns-3
 unfolding inUse
@@ -46,7 +46,7 @@ returns-3 c =
     let s = c .before .before .before .before .before .before in
     let image = now (s .args .image) in
     let n = s .args .n .0 in
-    rw (le-leb 1 n (omega arith), le-leb n (fmax image) (omega (arith, says image (s .args .v) (s .pre .1) .0 .fmax)), ← map-read (c .before), ← c .bit-at .ensures)
+    rw (le-leb 1 n (omega arith), le-leb n (fmax image) (omega (arith, says image (s .args .v) (s .pre .1) .fmax)), ← map-read (c .before), ← c .bit-at .ensures)
 
 pub is-in-use-spec : {M : Type 1} → statement M
 is-in-use-spec =

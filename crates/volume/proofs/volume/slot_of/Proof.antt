@@ -14,7 +14,7 @@ use Rattle.volume.proofs.volume.slot_of.Tie as tie
 room : (c : tie.Start) → c .args .v .iblb + c .args .v .ibsz + 16 ≤ 1044480
 room c =
     let image = now (c .args .image) in
-    let v = says image (c .args .v) (c .pre .1) .0 in
+    let v = says image (c .args .v) (c .pre .1) in
     let o = opens image (c .pre .0) in
     omega (arith, v .iblb, v .ibsz, o .fits, o .most)
 
@@ -22,7 +22,7 @@ header-read : (c : tie.After-block) → now (c .block .result) ≡ indexHeader (
 unfolding indexHeader
 header-read c =
     let s = c .before .before .before .before in
-    let v = says (now (s .args .image)) (s .args .v) (s .pre .1) .0 in
+    let v = says (now (s .args .image)) (s .args .v) (s .pre .1) in
     c .block .ensures ∙ ap (block (now (s .args .image))) (ap₂ _+_ (v .iblb) (v .ibsz))
 
 slot-read : (c : tie.After-place-of) → slotIn (c .place-of .result) ≡ slotOf (now (c .before .before .before .before .before .before .args .image)) (c .before .before .before .before .before .before .args .n .0)
@@ -31,7 +31,7 @@ slot-read c =
     let b = c .before .before in
     let s = b .before .before .before .before in
     let image = now (s .args .image) in
-    rw (c .place-of .ensures, header-read b) (slot-place image (opens image (s .pre .0)) (s .args .n .0) _ (omega (arith, says image (s .args .v) (s .pre .1) .0 .ibsz)))
+    rw (c .place-of .ensures, header-read b) (slot-place image (opens image (s .pre .0)) (s .args .n .0) _ (omega (arith, says image (s .args .v) (s .pre .1) .ibsz)))
 
 returns : tie.Need-returns
 returns c =
