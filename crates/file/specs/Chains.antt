@@ -1,11 +1,23 @@
 -- The chain of a file's headers, and the file's blocks.
+use mathlib.Core.Path.{_≡_}
 use mathlib.Core.Bool.{Bool, true, cond, _&&_, _||_}
 use mathlib.Core.List.{List, [], _∷_, _++_}
 use Prim.Native.Nat.{ℕ, zero, suc, _+_}
 use lib.Dec.{eqb}
 use Rattle.header.specs.Fields.{hFseq, segment, mEfnu, mEfsq}
 use Rattle.header.specs.Pointers.{blocksOf}
-use Rattle.volume.specs.Volume.{header, faultOf, isNumber}
+use lib.ListN.{length}
+use Rattle.volume.specs.declared.volume.Slot.{Slot}
+use Rattle.volume.specs.declared.volume.Slot.the-variants as slots
+use Rattle.volume.specs.Volume.{slot, header, faultOf, isNumber}
+use Rattle.file.specs.declared.chains.Link.{Link}
+use Rattle.file.specs.declared.chains.Link.the-variants as links
+use Rattle.file.specs.declared.chains.Chain.{Chain}
+use Rattle.file.specs.declared.chains.Chain.the-variants as chains
+
+-- The slot of n, if n is in use and has one.
+unfoldable pub slotInUse : List ℕ → ℕ → Slot
+slotInUse image n = cond (isNumber image n) (slots.At (record { 0 = slot image n })) slots.Missing
 
 -- 01, The header: "names a number in use with a slot, whole, with H.FSEQ = M.EFSQ and a segment number one higher". Header h does so by M.EFNU.
 unfoldable pub linksOn : List ℕ → List ℕ → Bool
@@ -18,6 +30,10 @@ linksOn image h =
 -- 01, The header: "Good link from a header: M.EFNU is 0, or names a number in use ..".
 unfoldable pub goodLink : List ℕ → List ℕ → Bool
 goodLink image h = eqb (mEfnu h) 0 || linksOn image h
+
+-- Where the link of header h leads.
+unfoldable pub linkFrom : List ℕ → List ℕ → Link
+linkFrom image h = cond (eqb (mEfnu h) 0) links.End (cond (linksOn image h) (links.To (record { 0 = slot image (mEfnu h) })) links.Bad)
 
 -- The numbers of the headers that are linked by M.EFNU from that of number n on, at most f of them. hdr gives the header of a number.
 unfoldable pub chain : (ℕ → List ℕ) → ℕ → ℕ → List ℕ
@@ -47,7 +63,15 @@ unfoldable pub flat : (ℕ → List ℕ) → List ℕ → List ℕ
 flat hdr [] = []
 flat hdr (n ∷ ns) = blocksOf (hdr n) ++ flat hdr ns
 
+-- Number n is in use with a slot, and its header is whole and the first of a file.
+abbrev pub IsFirst : List ℕ → ℕ → Type 0
+IsFirst image n = (isNumber image n ≡ true) × (faultOf image n ≡ 0) × (segment (header image n) ≡ 0)
+
 -- 01, The header: "VBNs run through its pointers in order." 01, Demand 3: "A file's blocks are the LBNs of its VBNs, from 1 to the last". The file
 -- whose first header has number n.
 unfoldable pub fileBlocks : List ℕ → ℕ → List ℕ
 fileBlocks image n = flat (header image) (chainOf image n)
+
+-- What a walk over the chain of the file whose first header has number n comes to.
+unfoldable pub chainBlocks : List ℕ → ℕ → Chain
+chainBlocks image n = cond (goodChain image n) (chains.Good (length (fileBlocks image n))) chains.Bad

@@ -1,7 +1,8 @@
 -- Opening a file by its ID: RELVOL, NUMBER, HEADER, SEQUENCE, SEGMENT; LOCKED; CHAIN, in this order.
 use mathlib.Core.Bool.{Bool, not, _||_}
 use mathlib.Core.List.{List}
-use Prim.Native.Nat.{ℕ, _/_, _%_}
+use mathlib.Core.Path.{_≡_}
+use Prim.Native.Nat.{ℕ, _/_, _%_, _≤_}
 use lib.Dec.{eqb}
 use lib.ListN.{length}
 use Rattle.answer.specs.declared.types.FileId.{FileId}
@@ -10,9 +11,10 @@ use Rattle.answer.specs.declared.outcome.Outcome.{Outcome}
 use Rattle.answer.specs.declared.outcome.Outcome.the-variants as outcome
 use Rattle.answer.specs.Outcome.{unless, _then_}
 use Rattle.header.specs.Fields.{hFseq, userFlags, systemFlags, segment}
-use Rattle.volume.specs.Volume.{header, faultOf, isNumber}
+use Rattle.volume.specs.Volume.{header, faultOf, isNumber, volumeOf}
 use Rattle.volume.specs.Opening.{openVolume}
 use Rattle.file.specs.Chains.{goodChain, fileBlocks}
+use Rattle.file.specs.declared.opening.OpenFile.{OpenFile}
 use Rattle.file.specs.declared.opening.OpenedFile.{OpenedFile}
 use Rattle.file.specs.declared.opening.OpenedFile.the-variants.{Done, Refused}
 
@@ -45,6 +47,14 @@ chained image id = unless (goodChain image (id .number)) refusal.Chain
 -- 01, Answer numbers: "Order: 1 to 5; .. 6 to 12". Every call that opens a file opens it so.
 unfoldable pub openFile : List ℕ → FileId → Outcome
 openFile image id = openVolume image then find image id then access image id then chained image id
+
+-- What an opened file tells the calls that go on from there: the outcome, and where that is passed the volume and how many blocks the file has.
+-- They are never more than 256 headers of 127 pointers, 256 blocks each, can cover.
+abbrev pub Tells : List ℕ → FileId → Outcome → OpenFile → Type 0
+Tells image id result file =
+    (file .outcome ≡ result)
+    × (result ≡ outcome.Passed → (file .volume ≡ volumeOf image) × (file .blocks ≡ length (fileBlocks image (id .number))))
+    × (file .blocks ≤ 8323072)
 
 -- 01, Answer numbers: DONE has as value the "block count (open file)".
 unfoldable pub openedFile : Outcome → ℕ → OpenedFile

@@ -1,9 +1,160 @@
 // Opening a file by its ID.
+use crate::chains::Chain;
+use crate::chains::chain_blocks;
+use crate::chains::header_of;
+use crate::chains::slot_in_use;
+use answer::outcome::Outcome;
 use answer::refusal::Refusal;
+use answer::types::FileId;
+use answer::types::FileNumber;
+use header::fields::h_fseq;
+use header::fields::segment;
+use header::fields::system_flags;
+use header::fields::user_flags;
+use header::whole::fault;
+use image::blocks::block;
+use volume::volume::Slot;
+use volume::volume::Volume;
+ghost use mathlib.Core.Path.{_≡_};
+ghost use mathlib.Core.Bool.{true};
+ghost use Rattle.answer.specs.declared.outcome.Outcome.the-variants as outcome;
+ghost use Rattle.answer.specs.Outcome.{_then_};
+ghost use Rattle.volume.specs.Volume.{isNumber};
+ghost use Rattle.volume.specs.Opening.{Open};
+ghost use Rattle.file.specs.Chains.{IsFirst};
+ghost use Rattle.file.specs.Opening.{find, locked, access, chained, openFile, Tells, openAnswer};
 
 // The answer of opening a file.
 pub enum OpenedFile {
     // How many blocks it has.
     Done(u32),
     Refused(Refusal),
+}
+
+// What opening a file comes to, for the calls that go on from there. The volume and the number of blocks are told where it is passed.
+pub struct OpenFile {
+    pub outcome: Outcome,
+    pub volume: Volume,
+    pub blocks: u32,
+}
+
+// Finding the header: RELVOL, NUMBER, HEADER, SEQUENCE, SEGMENT.
+fn find(image: &[u8], v: Volume, id: FileId) -> Outcome
+    requires { ⌜ Open (now image) v ⌝ }
+    ensures { λ r. ⌜ r ≡ find (now (image .entry)) id ⌝ }
+{
+    if id.volume != 0 {
+        return Outcome::Refused(Refusal::Relvol);
+    }
+    let n = id.number as u32;
+    let place = slot_in_use(image, v, FileNumber(n));
+    match place {
+        Slot::At(lbn) => {
+            let h = block(image, lbn.0);
+            let unmet = fault(h, v.blocks, n);
+            if unmet != 0 {
+                return Outcome::Refused(Refusal::Header(unmet));
+            }
+            if h_fseq(h) != id.sequence {
+                return Outcome::Refused(Refusal::Sequence);
+            }
+            if segment(h) != 0 {
+                return Outcome::Refused(Refusal::Segment);
+            }
+            Outcome::Passed
+        }
+        Slot::Missing => Outcome::Refused(Refusal::Number),
+    }
+}
+
+// Whether a flag of the first header refuses access.
+fn is_locked(h: &[u8]) -> bool
+    ensures { λ r. ⌜ r ≡ locked (now (h .entry)) ⌝ }
+{
+    let user = user_flags(h);
+    let system = system_flags(h);
+    (user / 64 % 2 == 1) | (system / 128 % 2 == 1)
+}
+
+// Access to a file whose header was found: LOCKED.
+fn access(image: &[u8], v: Volume, id: FileId) -> Outcome
+    requires { ⌜ Open (now image) v × (isNumber (now image) (id .number) ≡ true) ⌝ }
+    ensures { λ r. ⌜ r ≡ access (now (image .entry)) id ⌝ }
+{
+    let h = header_of(image, v, FileNumber(id.number as u32));
+    if is_locked(h) {
+        Outcome::Refused(Refusal::Locked)
+    } else {
+        Outcome::Passed
+    }
+}
+
+// A refusal, beside a volume that says nothing.
+fn refused(v: Volume, r: Refusal) -> OpenFile
+    ensures { λ o. ⌜ (o .outcome ≡ outcome.Refused r) × (o .blocks ≡ 0) ⌝ }
+{
+    OpenFile {
+        outcome: Outcome::Refused(r),
+        volume: v,
+        blocks: 0,
+    }
+}
+
+// The chain of a file to which there is access: CHAIN.
+fn open_chain(image: &[u8], v: Volume, id: FileId) -> OpenFile
+    requires { ⌜ Open (now image) v × IsFirst (now image) (id .number) ⌝ }
+    ensures { λ r. ⌜ Tells (now (image .entry)) id (chained (now (image .entry)) id) r ⌝ }
+{
+    let found = chain_blocks(image, v, FileNumber(id.number as u32));
+    match found {
+        Chain::Good(blocks) => OpenFile {
+            outcome: Outcome::Passed,
+            volume: v,
+            blocks,
+        },
+        Chain::Bad => refused(v, Refusal::Chain),
+    }
+}
+
+// Opens a file on an opened volume.
+fn open_on(image: &[u8], v: Volume, id: FileId) -> OpenFile
+    requires { ⌜ Open (now image) v ⌝ }
+    ensures { λ r. ⌜ Tells (now (image .entry)) id (find (now (image .entry)) id then access (now (image .entry)) id then chained (now (image .entry)) id) r ⌝ }
+{
+    let found = find(image, v, id);
+    match found {
+        Outcome::Passed => {
+            let admitted = access(image, v, id);
+            match admitted {
+                Outcome::Passed => open_chain(image, v, id),
+                Outcome::Refused(r) => refused(v, r),
+            }
+        }
+        Outcome::Refused(r) => refused(v, r),
+    }
+}
+
+// Opens a file.
+pub fn open(image: &[u8], id: FileId) -> OpenFile
+    ensures { λ r. ⌜ Tells (now (image .entry)) id (openFile (now (image .entry)) id) r ⌝ }
+{
+    let opened = volume::opening::open(image);
+    let v = opened.volume;
+    let result = opened.outcome;
+    match result {
+        Outcome::Passed => open_on(image, v, id),
+        Outcome::Refused(r) => refused(v, r),
+    }
+}
+
+// The answer of opening a file.
+pub fn open_file(image: &[u8], id: FileId) -> OpenedFile
+    ensures { λ r. ⌜ r ≡ openAnswer (now (image .entry)) id ⌝ }
+{
+    let o = open(image, id);
+    let result = o.outcome;
+    match result {
+        Outcome::Passed => OpenedFile::Done(o.blocks),
+        Outcome::Refused(r) => OpenedFile::Refused(r),
+    }
 }

@@ -5,9 +5,14 @@ use Prim.Native.Nat.{ℕ}
 use Rattle.image.specs.Stores.{zeros}
 use Rattle.image.specs.Sums.{checksum}
 use Rattle.answer.specs.declared.refusal.Refusal.the-variants as refusal
+use Rattle.answer.specs.declared.types.FileId.{FileId}
 use Rattle.radix50.specs.declared.words.Characters.the-variants.{Done, Refused}
 use Rattle.radix50.specs.Words.{charactersOf}
 use Rattle.radix50.specs.Parse.{partWord}
+use Rattle.volume.specs.Opening.{indexMapBlocks}
+use Rattle.file.specs.declared.mapping.Mapped.the-variants as mapped
+use Rattle.file.specs.Mapping.{mapAnswer}
+use Rattle.volume_v.specs.VolumeV.{volumeV}
 
 -- 01, Volume V: the texts "READS" and "DAT".
 unfoldable pub reads : List ℕ
@@ -19,6 +24,10 @@ dat = 68 ∷ 65 ∷ 84 ∷ []
 -- 01, Volume V: "words 65535, 2, rest 0", as a block.
 unfoldable pub twoWords : List ℕ
 twoWords = 255 ∷ 255 ∷ 2 ∷ 0 ∷ zeros 508
+
+-- 01, Volume V: the ID "6,9", on volume 0.
+unfoldable pub file6 : FileId
+file6 = record { number = 6; sequence = 9; volume = 0 }
 
 -- 01, What would not satisfy us: "The P cases stand together under a single statement about the definitions".
 pub record Cases : Type 0 where
@@ -32,3 +41,12 @@ pub record Cases : Type 0 where
   pub above : charactersOf 64000 ≡ Refused refusal.Name
   -- "words 65535, 2, rest 0 sum to 1 (P)"
   pub sum : checksum twoWords 255 ≡ 1
+  -- "H.FMAX 4096 gives m 1, 4097 gives 2 (P)"
+  pub fmax-4096 : indexMapBlocks 4096 ≡ 1
+  pub fmax-4097 : indexMapBlocks 4097 ≡ 2
+  -- "6,9 VBN 2 is LBN 31 (P)"
+  pub vbn-2 : mapAnswer volumeV file6 2 ≡ mapped.Done (record { 0 = 31 })
+  -- "VBN 3 is 25 (P)"
+  pub vbn-3 : mapAnswer volumeV file6 3 ≡ mapped.Done (record { 0 = 25 })
+  -- "VBN 4 refused (P)"
+  pub vbn-4 : mapAnswer volumeV file6 4 ≡ mapped.Refused refusal.Vbn

@@ -1,5 +1,6 @@
 -- The tests in their order; those of the map area are left to the call.
 use borrow.Author.Needs.{needs}
+use native.Mathlib.Omega.{arith}
 use mathlib.Core.Path.{_≡_, sym, _∙_}
 use mathlib.Core.Bool.{true}
 use borrow.Author.Tests.{eq-eqb, ne-eqb, le-leb, lt-leb}
@@ -34,21 +35,21 @@ returns-2 : tie.Need-returns-2
 unfolding fault tests firstUnmet hFlev
 returns-2 c =
     let s = c .before in
-    rw (sum (s .before), ← s .word-at2 .ensures, ne-eqb (s .word-at2 .result) 257 (c .if2 .taken))
+    rw (sum (s .before), ← s .word-at2 .ensures, ne-eqb (s .word-at2 .result) 257 (omega arith))
 
 returns-3 : tie.Need-returns-3
 unfolding fault tests firstUnmet hFnum
 returns-3 c =
     let s = c .before in
     let e = s .before in
-    rw (sum (e .before .before), level e, ← s .word-at3 .ensures, ne-eqb (s .word-at3 .result) _ (c .if3 .taken))
+    rw (sum (e .before .before), level e, ← s .word-at3 .ensures, ne-eqb (s .word-at3 .result) (e .before .before .before .before .before .before .args .n) (omega arith))
 
 returns-4 : tie.Need-returns-4
 unfolding fault tests firstUnmet hIdof
 returns-4 c =
     let s = c .before .before in
     let e = s .before .before in
-    rw (sum (e .before .before), level e, number s, lt-leb 23 _ (c .if4 .taken))
+    rw (sum (e .before .before), level e, number s, lt-leb 23 (hIdof (now (e .before .before .before .before .before .before .args .h))) (omega arith))
 
 returns-5 : tie.Need-returns-5
 unfolding fault tests firstUnmet hIdof hMpof
@@ -56,7 +57,7 @@ returns-5 c =
     let f = c .before .before .before in
     let s = f .before .before in
     let e = s .before .before in
-    rw (sum (e .before .before), level e, number s, le-leb 23 _ (f .if4 .left), lt-leb _ _ (c .if5 .taken))
+    rw (sum (e .before .before), level e, number s, le-leb 23 (hIdof (now (e .before .before .before .before .before .before .args .h))) (omega arith), lt-leb _ _ (c .if5 .taken))
 
 returns-6 : tie.Need-returns-6
 unfolding fault tests firstUnmet hIdof hMpof
@@ -65,7 +66,7 @@ returns-6 c =
     let f = g .before .before .before in
     let s = f .before .before in
     let e = s .before .before in
-    rw (sum (e .before .before), level e, number s, le-leb 23 _ (f .if4 .left), le-leb _ _ (g .if5 .left), c .map-fault .ensures)
+    rw (sum (e .before .before), level e, number s, le-leb 23 (hIdof (now (e .before .before .before .before .before .before .args .h))) (omega arith), le-leb _ _ (g .if5 .left), c .map-fault .ensures)
 
 pub fault-spec : {M : Type 1} → statement M
 fault-spec =

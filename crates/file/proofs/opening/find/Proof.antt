@@ -1,0 +1,104 @@
+-- The slot that was found, and the tests of the header in it, are those of the definition.
+use borrow.Author.Needs.{needs}
+use mathlib.Core.Path.{_≡_, sym, ap, _∙_}
+use denote.Ref.{now}
+use Rattle.image.specs.Blocks.{block}
+use Rattle.header.specs.Fields.{hFseq, segment}
+use Rattle.header.specs.Whole.{fault}
+use Rattle.volume.specs.declared.volume.Slot.the-variants.{At}
+use Rattle.volume.specs.Volume.{header, faultOf}
+use Rattle.volume.proofs.VolumeLaws.{says}
+use Rattle.file.proofs.NumberLaws.{number-length}
+use Rattle.file.proofs.LinkLaws.{Found, slot-found}
+use Rattle.file.proofs.OpeningLaws.{find-relvol, find-number, find-header, find-sequence, find-segment, find-passed}
+use Rattle.file.proofs.opening.find.Statement.{statement}
+use Rattle.file.proofs.opening.find.Tie as tie
+
+found : (c : tie.After-place) → let a = c .before .before .before .before .before .before .before .args in Found (now (a .image)) (a .id .number) (At (c .place .given .0 .0))
+found c =
+    let s = c .before .before in
+    let a = s .before .before .before .before .before .args in
+    slot-found (now (a .image)) (a .id .number) _ (sym (s .slot-in-use .ensures) ∙ c .place .given .1)
+
+named : (c : tie.After-block) → let a = c .before .before .before .before .before .before .before .before .before .args in now (c .block .result) ≡ header (now (a .image)) (a .id .number)
+unfolding header
+named c =
+    let p = c .before .before in
+    c .block .ensures ∙ ap (block (now (p .before .before .before .before .before .before .before .args .image))) (found p .1)
+
+tested : (c : tie.After-fault) → let a = c .before .before .before .before .before .before .before .before .before .before .args in c .fault .result ≡ faultOf (now (a .image)) (a .id .number)
+unfolding faultOf
+tested c =
+    let start = c .before .before .before .before .before .before .before .before .before .before in
+    rw (← named (c .before), ← says (now (start .args .image)) (start .args .v) (start .pre .1) .blocks) (c .fault .ensures)
+
+slot-in-use-requires : tie.Need-slot-in-use-requires
+slot-in-use-requires c κs = c .before .before .before .before .pre
+
+returns : tie.Need-returns
+returns c =
+    let a = c .before .before .before .args in
+    sym (find-relvol (now (a .image)) (a .id) (c .if1 .taken))
+
+fault-requires : tie.Need-fault-requires
+fault-requires c κs =
+    let start = c .before .before .before .before .before .before .before .before .before in
+    rw (named c) (number-length (now (start .args .image)) (start .args .id .number) (found (c .before .before) .0) (start .pre .0))
+
+returns-2 : tie.Need-returns-2
+returns-2 c =
+    let f = c .before in
+    let p = f .before .before .before in
+    let e = p .before .before .before .before in
+    let a = e .before .before .before .args in
+    rw (tested f) (sym (find-header (now (a .image)) (a .id) (e .if1 .left) (found p .0) (λ z. c .if2 .taken (tested f ∙ z))))
+
+returns-3 : tie.Need-returns-3
+returns-3 c =
+    let q = c .before .before in
+    let f = q .before .before in
+    let p = f .before .before .before in
+    let e = p .before .before .before .before in
+    let a = e .before .before .before .args in
+    sym
+    (find-sequence (now (a .image)) (a .id) (e .if1 .left) (found p .0) (sym (tested f) ∙ q .before .if2 .left)
+    (λ z. c .if3 .taken (q .h-fseq .ensures ∙ ap hFseq (named (f .before)) ∙ z)))
+
+returns-4 : tie.Need-returns-4
+returns-4 c =
+    let t = c .before .before in
+    let q = t .before .before in
+    let f = q .before .before in
+    let p = f .before .before .before in
+    let e = p .before .before .before .before in
+    let a = e .before .before .before .args in
+    let n = named (f .before) in
+    sym
+    (find-segment (now (a .image)) (a .id) (e .if1 .left) (found p .0) (sym (tested f) ∙ q .before .if2 .left)
+    (sym (ap hFseq n) ∙ sym (q .h-fseq .ensures) ∙ t .if3 .left) (λ z. c .if4 .taken (c .before .segment .ensures ∙ ap segment n ∙ z)))
+
+returns-5 : tie.Need-returns-5
+returns-5 c =
+    let t = c .before .before in
+    let q = t .before .before in
+    let f = q .before .before in
+    let p = f .before .before .before in
+    let e = p .before .before .before .before in
+    let a = e .before .before .before .args in
+    let n = named (f .before) in
+    sym
+    (find-passed (now (a .image)) (a .id) (e .if1 .left) (found p .0) (sym (tested f) ∙ q .before .if2 .left)
+    (sym (ap hFseq n) ∙ sym (q .h-fseq .ensures) ∙ t .if3 .left) (sym (ap segment n) ∙ sym (c .before .segment .ensures) ∙ c .if4 .left))
+
+returns-6 : tie.Need-returns-6
+returns-6 c =
+    let s = c .before .before in
+    let e = s .before .before in
+    let a = e .before .before .before .args in
+    sym (find-number (now (a .image)) (a .id) (e .if1 .left) (slot-found (now (a .image)) (a .id .number) _ (sym (s .slot-in-use .ensures) ∙ c .enum-told .given .1)))
+
+pub find-spec : {M : Type 1} → statement M
+find-spec =
+    tie.close
+    (tie.spec returns (search needs) slot-in-use-requires (search needs) (search needs) fault-requires returns-2 (search needs)
+    returns-3 (search needs) returns-4 (search needs) returns-5 returns-6)

@@ -1,0 +1,41 @@
+-- The volume is opened first.
+use borrow.Author.Needs.{needs}
+use mathlib.Core.Path.{_≡_, sym, _∙_}
+use denote.Ref.{now}
+use Rattle.answer.specs.Outcome.{_then_}
+use Rattle.answer.specs.declared.outcome.Outcome.the-variants.{Passed}
+use Rattle.volume.specs.Opening.{openVolume}
+use Rattle.file.specs.Opening.{find, access, chained, openFile}
+use Rattle.file.proofs.OpeningLaws.{then-passed, then-refused, tells-refused}
+use Rattle.file.proofs.opening.open.Statement.{statement}
+use Rattle.file.proofs.opening.open.Tie as tie
+
+passed : (c : tie.After-enum-told) → openVolume (now (c .before .before .before .before .before .args .image)) ≡ Passed
+passed c = sym (c .before .before .before .open .ensures .0) ∙ c .enum-told .given .1
+
+open-on-requires : tie.Need-open-on-requires
+open-on-requires c κs = (passed c, c .before .before .before .open .ensures .1 (passed c))
+
+returns : tie.Need-returns
+unfolding openFile
+returns c =
+    let t = c .before in
+    let a = t .before .before .before .before .before .args in
+    let image = now (a .image) in
+    rw (then-passed (openVolume image) (find image (a .id) then access image (a .id) then chained image (a .id)) (passed t)) (c .open-on .ensures)
+
+returns-2 : tie.Need-returns-2
+unfolding openFile
+returns-2 c =
+    let d = c .before .before in
+    let o = d .before .before .before in
+    let a = o .before .before .args in
+    let image = now (a .image) in
+    tells-refused image (a .id) _ _ _
+    (then-refused (openVolume image) (find image (a .id) then access image (a .id) then chained image (a .id)) _ (sym (o .open .ensures .0) ∙ d .result .given .1))
+    (c .refused .ensures .0) (c .refused .ensures .1)
+
+pub open-spec : {M : Type 1} → statement M
+open-spec =
+    tie.close
+    (tie.spec (search needs) (search needs) open-on-requires (search needs) (search needs) returns returns-2)

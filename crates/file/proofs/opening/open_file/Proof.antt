@@ -1,0 +1,23 @@
+-- The answer is the outcome, with the number of blocks.
+use borrow.Author.Needs.{needs}
+use mathlib.Core.Path.{sym, _∙_}
+use Rattle.file.specs.Opening.{openedFile, openAnswer}
+use Rattle.file.proofs.opening.open_file.Statement.{statement}
+use Rattle.file.proofs.opening.open_file.Tie as tie
+
+returns : tie.Need-returns
+unfolding openAnswer openedFile
+returns c =
+    let o = c .before .before in
+    let p = sym (o .open .ensures .0) ∙ c .enum-told .given .1 in
+    rw (p, ← o .open .ensures .1 p .1)
+
+returns-2 : tie.Need-returns-2
+unfolding openAnswer openedFile
+returns-2 c =
+    let r = c .before in
+    let o = r .before .before in
+    rw (← o .open .ensures .0, r .result .given .1)
+
+pub open-file-spec : {M : Type 1} → statement M
+open-file-spec = tie.close (tie.spec (search needs) (search needs) (search needs) returns returns-2)
