@@ -59,12 +59,16 @@ fn is_next(h: &[u8], next: &[u8], blocks: u32, n: u32) -> bool
     requires { ⌜ length (now next) ≡ 512 ⌝ }
     ensures { λ r. ⌜ r ≡ (eqb (fault blocks n (now (next .entry))) 0 && eqb (hFseq (now (next .entry))) (mEfsq (now (h .entry))) && eqb (segment (now (next .entry))) (segment (now (h .entry)) + 1)) ⌝ }
 {
-    let unmet = fault(next, blocks, n);
-    let sequence = h_fseq(next);
-    let named = m_efsq(h);
-    let higher = segment(next);
-    let lower = segment(h);
-    (unmet == 0) & (sequence == named) & ((higher as u16) == (lower as u16) + 1)
+    if h_fseq(next) != m_efsq(h) {
+        return false;
+    }
+    if (segment(next) as u16) != (segment(h) as u16) + 1 {
+        return false;
+    }
+    if fault(next, blocks, n) != 0 {
+        return false;
+    }
+    true
 }
 
 // Where the link of header h leads.

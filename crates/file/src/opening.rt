@@ -71,9 +71,13 @@ fn find(image: &[u8], v: Volume, id: FileId) -> Outcome
 fn is_locked(h: &[u8]) -> bool
     ensures { λ r. ⌜ r ≡ locked (now (h .entry)) ⌝ }
 {
-    let user = user_flags(h);
-    let system = system_flags(h);
-    (user / 64 % 2 == 1) | (system / 128 % 2 == 1)
+    if user_flags(h) / 64 % 2 == 1 {
+        return true;
+    }
+    if system_flags(h) / 128 % 2 == 1 {
+        return true;
+    }
+    false
 }
 
 // Access to a file whose header was found: LOCKED.
