@@ -31,10 +31,12 @@ pub enum OpenedFile {
     Refused(Refusal),
 }
 
-// What opening a file comes to, for the calls that go on from there. The volume and the number of blocks are told where it is passed.
+// What opening a file comes to, for the calls that go on from there.
 pub struct OpenFile {
     pub outcome: Outcome,
+    // The volume; it says nothing where the outcome is a refusal.
     pub volume: Volume,
+    // How many blocks the file has.
     pub blocks: u32,
 }
 
@@ -93,7 +95,7 @@ fn access(image: &[u8], v: Volume, id: FileId) -> Outcome
     }
 }
 
-// A refusal, beside a volume that says nothing.
+// A refusal.
 fn refused(v: Volume, r: Refusal) -> OpenFile
     ensures { λ o. ⌜ (o .outcome ≡ outcome.Refused r) × (o .blocks ≡ 0) ⌝ }
 {
