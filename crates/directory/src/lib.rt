@@ -3,3 +3,4 @@
 pub mod look_up;
 pub mod next;
 pub mod records;
+mod search;

@@ -1,10 +1,54 @@
 // The next record of a walk.
 use crate::records::Entry;
+use crate::records::Wanted;
+use crate::search::entry_of_file;
+use crate::search::record_count;
+use crate::search::search_file;
+use answer::outcome::Outcome;
 use answer::refusal::Refusal;
+use answer::types::FileId;
+use answer::types::FileNumber;
+use file::opening::open;
+use volume::volume::Volume;
+ghost use mathlib.Core.Path.{_≡_};
+ghost use Rattle.answer.specs.declared.outcome.Outcome.the-variants.{Passed};
+ghost use Rattle.volume.specs.Volume.{volumeOf};
+ghost use Rattle.file.specs.Opening.{openFile};
+ghost use Rattle.directory.specs.Records.{recordCount};
+ghost use Rattle.directory.specs.LookUp.{nextRecord};
 
 // The answer of a step.
 pub enum Stepped {
     // The record, and the place to go on from.
     Done(Entry, u32),
     Refused(Refusal),
+}
+
+// A step in a directory that opens, of so many records: ABSENT.
+fn next_opened(image: &[u8], v: Volume, id: FileId, count: u32, place: u32) -> Stepped
+    requires { ⌜ (openFile (now image) id ≡ Passed) × (v ≡ volumeOf (now image)) × (count ≡ recordCount (now image) (id .number)) ⌝ }
+    ensures { λ r. ⌜ r ≡ nextRecord (now (image .entry)) id place ⌝ }
+{
+    if count <= place {
+        return Stepped::Refused(Refusal::Absent);
+    }
+    let n = id.number as u32;
+    let r = search_file(image, v, FileNumber(n), place, count, Wanted::Any);
+    if count <= r {
+        return Stepped::Refused(Refusal::Absent);
+    }
+    let e = entry_of_file(image, v, FileNumber(n), r);
+    Stepped::Done(e, r + 1)
+}
+
+// The next record that is not empty, from a place on; ABSENT where there is none, and in a file that does not open.
+pub fn next_record(image: &[u8], id: FileId, place: u32) -> Stepped
+    ensures { λ r. ⌜ r ≡ nextRecord (now (image .entry)) id place ⌝ }
+{
+    let file = open(image, id);
+    let outcome = file.outcome;
+    match outcome {
+        Outcome::Passed => next_opened(image, file.volume, id, record_count(file.blocks), place),
+        Outcome::Refused(_) => Stepped::Refused(Refusal::Absent),
+    }
 }

@@ -1,6 +1,14 @@
 // The records of a directory.
 use answer::types::FileId;
 use answer::types::Name;
+use image::words::word_at;
+ghost use mathlib.Core.Path.{_≡_};
+ghost use Prim.Native.Nat.{_-_, _≤_, _<_};
+ghost use lib.ListN.{length};
+ghost use Rattle.image.specs.First.{first};
+ghost use Rattle.directory.specs.Records.{recordIn, entryOf};
+ghost use Rattle.directory.specs.Search.{wantedIn};
+ghost use Rattle.directory.specs.declared.records.Wanted.the-variants.{Any, Named};
 
 // What a record has: an ID and a name.
 pub struct Entry {
@@ -14,4 +22,101 @@ pub enum Wanted {
     Any,
     // One with this name.
     Named(Name),
+}
+
+// The entry in record i of a block.
+pub(crate) fn entry_at(b: &[u8], i: u32) -> Entry
+    requires { ⌜ (length (now b) ≡ 512) × (i < 32) ⌝ }
+    ensures { λ r. ⌜ r ≡ entryOf (recordIn (now (b .entry)) i) ⌝ }
+{
+    let at = 16 * (i as usize);
+    let number = word_at(b, at);
+    let sequence = word_at(b, at + 2);
+    let volume = word_at(b, at + 4);
+    let name1 = word_at(b, at + 6);
+    let name2 = word_at(b, at + 8);
+    let name3 = word_at(b, at + 10);
+    let typ = word_at(b, at + 12);
+    let version = word_at(b, at + 14);
+    Entry {
+        id: FileId {
+            number,
+            sequence,
+            volume,
+        },
+        name: Name {
+            name1,
+            name2,
+            name3,
+            typ,
+            version,
+        },
+    }
+}
+
+// Whether record i of a block is not empty.
+fn is_filled(b: &[u8], i: u32) -> bool
+    requires { ⌜ (length (now b) ≡ 512) × (i < 32) ⌝ }
+    ensures { λ r. ⌜ r ≡ wantedIn (now (b .entry)) Any i ⌝ }
+{
+    word_at(b, 16 * (i as usize)) != 0
+}
+
+// Whether record i of a block is not empty and has this name.
+fn is_named(b: &[u8], i: u32, name: Name) -> bool
+    requires { ⌜ (length (now b) ≡ 512) × (i < 32) ⌝ }
+    ensures { λ r. ⌜ r ≡ wantedIn (now (b .entry)) (Named name) i ⌝ }
+{
+    let at = 16 * (i as usize);
+    if word_at(b, at) == 0 {
+        return false;
+    }
+    (word_at(b, at + 6) == name.name1)
+        & (word_at(b, at + 8) == name.name2)
+        & (word_at(b, at + 10) == name.name3)
+        & (word_at(b, at + 12) == name.typ)
+        & (word_at(b, at + 14) == name.version)
+}
+
+// The first of the records of a block, from one place to before another, that is not empty; that place where none is.
+fn first_filled(b: &[u8], from: u32, to: u32) -> u32
+    requires { ⌜ (length (now b) ≡ 512) × (from ≤ to) × (to ≤ 32) ⌝ }
+    ensures { λ r. ⌜ r ≡ first (wantedIn (now (b .entry)) Any) from (to - from) ⌝ }
+{
+    let mut i = from;
+    while i < to {
+        let filled = is_filled(b, i);
+        if filled {
+            return i;
+        }
+        i += 1;
+    }
+    i
+}
+
+// The first that is not empty and has this name.
+fn first_named(b: &[u8], from: u32, to: u32, name: Name) -> u32
+    requires { ⌜ (length (now b) ≡ 512) × (from ≤ to) × (to ≤ 32) ⌝ }
+    ensures { λ r. ⌜ r ≡ first (wantedIn (now (b .entry)) (Named name)) from (to - from) ⌝ }
+{
+    let mut i = from;
+    while i < to {
+        let named = is_named(b, i, name);
+        if named {
+            return i;
+        }
+        i += 1;
+    }
+    i
+}
+
+// The first that is wanted.
+pub(crate) fn first_in_block(b: &[u8], from: u32, to: u32, w: Wanted) -> u32
+    requires { ⌜ (length (now b) ≡ 512) × (from ≤ to) × (to ≤ 32) ⌝ }
+    ensures { λ r. ⌜ r ≡ first (wantedIn (now (b .entry)) w) from (to - from) ⌝ }
+{
+    match w {
+        Wanted::Any => first_filled(b, from, to),
+        Wanted::Named(name) => first_named(b, from, to, name),
+    }
 }

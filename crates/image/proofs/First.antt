@@ -77,3 +77,38 @@ first-same p q s d h =
       before = λ i a b. h i a (omega arith) ∙ r .before i a b;
       here = λ l. h (first q s d) (r .low) l ∙ r .here l;
     })
+
+-- A range that is searched in two parts, up to m and from there on to e: the first part has the number, or the second is searched from where
+-- the first ended.
+module _ (p : ℕ → Bool) (s m e : ℕ) (inside : m ≤ e) where
+  pub first-found : first p s (m - s) < m → first p s (e - s) ≡ first p s (m - s)
+  first-found h =
+      let r = first-has p s (m - s) in
+      first-is p s (e - s) (first p s (m - s)) (record { low = r .low; high = omega arith; before = r .before; here = λ l. r .here (omega arith) })
+
+  pub first-past : m ≤ first p s (m - s) → first p s (e - s) ≡ first p (first p s (m - s)) (e - first p s (m - s))
+  first-past h = go (first p s (m - s)) h (first-has p s (m - s))
+    where
+      go : (t : ℕ) → m ≤ t → Is p s (m - s) t → first p s (e - s) ≡ first p t (e - t)
+      go t h r = first-is p s (e - s) (first p t (e - t)) (record { low = omega (arith, r .low, q .low); high = high; before = λ i a b. at i (decLt i t) a b; here = λ l. q .here (omega (arith, r .low, r .high)) })
+        where
+          q : Is p t (e - t) (first p t (e - t))
+          q = first-has p t (e - t)
+
+          high : first p t (e - t) ≤ s + (e - s)
+          high = omega (arith, r .low, r .high, q .high)
+
+          at : (i : ℕ) → Dec (i < t) → s ≤ i → i < first p t (e - t) → p i ≡ false
+          at i (yes l) a b = r .before i a l
+          at i (no l) a b = q .before i (omega arith) b
+
+-- A test that is another one k places further on.
+pub first-shift : (p q : ℕ → Bool) (k s d : ℕ) → ((i : ℕ) → s ≤ i → i < s + d → q (k + i) ≡ p i) → first q (k + s) d ≡ k + first p s d
+first-shift p q k s d h =
+    let r = first-has p s d in
+    first-is q (k + s) d (k + first p s d) (record {
+      low = omega (arith, r .low);
+      high = omega (arith, r .high);
+      before = λ i a b. ap q (omega arith) ∙ h (i - k) (omega arith) (omega (arith, r .high)) ∙ r .before (i - k) (omega arith) (omega arith);
+      here = λ l. h (first p s d) (r .low) (omega arith) ∙ r .here (omega arith);
+    })

@@ -1,0 +1,98 @@
+-- Laws of looking a name up and of a walk's next record: what the answer is in each case.
+use mathlib.Core.Path.{_≡_, refl}
+use mathlib.Core.Bool.{true, false}
+use mathlib.Core.List.{List}
+use Prim.Native.Nat.{ℕ, _+_, _*_, _-_, _≤_, _<_}
+use native.Mathlib.Omega.{arith}
+use borrow.Author.Tests.{lt-ltb, le-ltb}
+use lib.ListN.{length, getD}
+use Rattle.image.proofs.First.{first-none}
+use Rattle.answer.specs.declared.types.FileId.{FileId}
+use Rattle.answer.specs.declared.types.Name.{Name}
+use Rattle.answer.specs.declared.refusal.Refusal.{Refusal}
+use Rattle.answer.specs.declared.refusal.Refusal.the-variants as refusal
+use Rattle.answer.specs.declared.outcome.Outcome.the-variants.{Passed, Refused}
+use Rattle.answer.specs.Outcome.{unless, _then_}
+use Rattle.radix50.specs.Names.{proper}
+use Rattle.volume.specs.Volume.{volumeOf}
+use Rattle.volume.specs.declared.volume.Volume.{Volume}
+use Rattle.volume.proofs.VolumeLaws.{opens}
+use Rattle.file.specs.Chains.{fileBlocks}
+use Rattle.file.specs.Opening.{openFile}
+use Rattle.file.proofs.SizeLaws.{file-below}
+use Rattle.file.proofs.OpeningLaws.{opened}
+use Rattle.directory.specs.Records.{wantedAt, recordCount}
+use Rattle.directory.specs.Search.{searchIn, FileOpen}
+use Rattle.directory.specs.LookUp.{firstWanted, entryOfFile, findName, foundEntry, lookUp, orAbsent, findNext, steppedTo, nextRecord}
+use Rattle.directory.specs.declared.records.Wanted.{Wanted}
+use Rattle.directory.specs.declared.records.Wanted.the-variants.{Any, Named}
+use Rattle.directory.specs.declared.look_up.Found.the-variants as found
+use Rattle.directory.specs.declared.next.Stepped.the-variants as stepped
+use Rattle.directory.proofs.SearchLaws.{search-all}
+
+-- What opening a file gives to those who read it: the file is open, and each of its blocks lies in the image.
+pub opened-file : (image : List ℕ) (v : Volume) (id : FileId) → openFile image id ≡ Passed → v ≡ volumeOf image → FileOpen image v (id .number)
+opened-file image v id e is =
+    let o = opened image id e in
+    ((o .volume, is), o .found .first, o .chain)
+
+pub block-inside : (image : List ℕ) (v : Volume) (n : ℕ) → FileOpen image v n → (i : ℕ) → i < length (fileBlocks image n) → 512 * getD (fileBlocks image n) i 0 + 512 ≤ length image
+block-inside image v n (o, first, good) i l = omega (arith, opens image (o .0) .size, file-below image n first good i l)
+
+-- The directory's records lie in its blocks.
+pub records-count : (image : List ℕ) (n : ℕ) → recordCount image n ≡ 32 * length (fileBlocks image n)
+unfolding recordCount
+records-count image n = refl
+
+pub records-inside : (image : List ℕ) (n : ℕ) → recordCount image n ≤ 32 * length (fileBlocks image n)
+records-inside image n = omega (arith, records-count image n)
+
+-- The first record wanted is what a search of the file's records finds.
+pub search-wanted :
+    (image : List ℕ) (n : ℕ) (w : Wanted) (place count r : ℕ) → count ≡ recordCount image n → r ≡ searchIn image (fileBlocks image n) w place count
+    → r ≡ firstWanted image n w place
+unfolding firstWanted
+search-wanted image n w place count r e found =
+    rw (found, e) (search-all image (fileBlocks image n) w place (recordCount image n) (records-inside image n))
+
+-- There is none from a place on that lies past the last record.
+pub wanted-past : (image : List ℕ) (n : ℕ) (w : Wanted) (place : ℕ) → recordCount image n ≤ place → firstWanted image n w place ≡ place
+unfolding firstWanted
+wanted-past image n w place h = first-none (wantedAt image (fileBlocks image n) w) place (recordCount image n) h
+
+module _ (image : List ℕ) (id : FileId) (name : Name) where
+  pub look-refused : (r : Refusal) → openFile image id ≡ Refused r → lookUp image id name ≡ found.Refused r
+  unfolding lookUp findName foundEntry _then_
+  look-refused r e = rw e
+
+  module _ (opened : openFile image id ≡ Passed) where
+    pub look-improper : proper name ≡ false → lookUp image id name ≡ found.Refused refusal.Name
+    unfolding lookUp findName foundEntry _then_ unless
+    look-improper e = rw (opened, e)
+
+    module _ (good : proper name ≡ true) where
+      pub look-absent : recordCount image (id .number) ≤ firstWanted image (id .number) (Named name) 0 → lookUp image id name ≡ found.Refused refusal.Absent
+      unfolding lookUp findName foundEntry _then_ unless
+      look-absent h = rw (opened, good, le-ltb (firstWanted image (id .number) (Named name) 0) (recordCount image (id .number)) h)
+
+      pub look-found :
+          (r : ℕ) → r ≡ firstWanted image (id .number) (Named name) 0 → r < recordCount image (id .number)
+          → lookUp image id name ≡ found.Done (entryOfFile image (id .number) r .id)
+      unfolding lookUp findName foundEntry _then_ unless
+      look-found r e h = rw (opened, good, ← e, lt-ltb r (recordCount image (id .number)) h)
+
+module _ (image : List ℕ) (id : FileId) (place : ℕ) where
+  pub next-refused : (r : Refusal) → openFile image id ≡ Refused r → nextRecord image id place ≡ stepped.Refused refusal.Absent
+  unfolding nextRecord findNext orAbsent steppedTo _then_
+  next-refused r e = rw e
+
+  module _ (opened : openFile image id ≡ Passed) where
+    pub next-absent : recordCount image (id .number) ≤ firstWanted image (id .number) Any place → nextRecord image id place ≡ stepped.Refused refusal.Absent
+    unfolding nextRecord findNext orAbsent steppedTo _then_ unless
+    next-absent h = rw (opened, le-ltb (firstWanted image (id .number) Any place) (recordCount image (id .number)) h)
+
+    pub next-found :
+        (r : ℕ) → r ≡ firstWanted image (id .number) Any place → r < recordCount image (id .number)
+        → nextRecord image id place ≡ stepped.Done (entryOfFile image (id .number) r) (r + 1)
+    unfolding nextRecord findNext orAbsent steppedTo _then_ unless
+    next-found r e h = rw (opened, ← e, lt-ltb r (recordCount image (id .number)) h)

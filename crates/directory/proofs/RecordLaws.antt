@@ -1,0 +1,51 @@
+-- Laws of a record: its words are words of the block.
+use mathlib.Core.Path.{_≡_, ap, _∙_}
+use mathlib.Core.Bool.{not, _&&_}
+use mathlib.Core.List.{List}
+use Prim.Native.Nat.{ℕ, _+_, _*_, _<_}
+use native.Mathlib.Nat.{add-zero}
+use native.Mathlib.Omega.{arith}
+use lib.Dec.{eqb}
+use lib.ListN.{drop}
+use lib.Seq.{getD-take, getD-drop}
+use Rattle.image.specs.Words.{byteAt, wordAt}
+use Rattle.image.proofs.WordLaws.{word-same}
+use Rattle.answer.specs.declared.types.Name.{Name}
+use Rattle.directory.specs.Records.{recordIn, entryOf, isEmpty, sameName, isWanted}
+use Rattle.directory.specs.Search.{wantedIn}
+use Rattle.directory.specs.declared.records.Wanted.the-variants.{Any, Named}
+
+module _ (b : List ℕ) (i : ℕ) where
+  record-byte : (o : ℕ) → o < 16 → byteAt (recordIn b i) o ≡ byteAt b (16 * i + o)
+  unfolding recordIn
+  record-byte o h = getD-take 16 (drop (16 * i) b) o 0 h ∙ getD-drop (16 * i) b o 0
+
+  pub record-word : (o : ℕ) → o + 1 < 16 → wordAt (recordIn b i) o ≡ wordAt b (16 * i + o)
+  record-word o h = word-same (recordIn b i) b o (16 * i + o) (record-byte o (omega arith)) (record-byte (o + 1) h ∙ ap (byteAt b) (omega arith))
+
+  number-word : wordAt (recordIn b i) 0 ≡ wordAt b (16 * i)
+  number-word = record-word 0 (omega arith) ∙ ap (wordAt b) (add-zero (16 * i))
+
+  pub entry-in : entryOf (recordIn b i) ≡ record {
+    id = record { number = wordAt b (16 * i); sequence = wordAt b (16 * i + 2); volume = wordAt b (16 * i + 4) };
+    name = record { name1 = wordAt b (16 * i + 6); name2 = wordAt b (16 * i + 8); name3 = wordAt b (16 * i + 10); typ = wordAt b (16 * i + 12); version = wordAt b (16 * i + 14) };
+  }
+  unfolding entryOf
+  entry-in =
+      rw (number-word, record-word 2 (omega arith), record-word 4 (omega arith), record-word 6 (omega arith), record-word 8 (omega arith), record-word 10 (omega arith), record-word 12 (omega arith), record-word 14 (omega arith))
+
+  -- Not empty.
+  pub filled-in : wantedIn b Any i ≡ not (eqb (wordAt b (16 * i)) 0)
+  unfolding wantedIn isWanted isEmpty
+  filled-in = rw entry-in
+
+  -- Not empty, and of this name.
+  pub named-in : (n : Name) → wantedIn b (Named n) i ≡
+      (not (eqb (wordAt b (16 * i)) 0)
+      && (eqb (wordAt b (16 * i + 6)) (n .name1)
+      && eqb (wordAt b (16 * i + 8)) (n .name2)
+      && eqb (wordAt b (16 * i + 10)) (n .name3)
+      && eqb (wordAt b (16 * i + 12)) (n .typ)
+      && eqb (wordAt b (16 * i + 14)) (n .version)))
+  unfolding wantedIn isWanted isEmpty sameName
+  named-in n = rw entry-in

@@ -1,0 +1,142 @@
+-- Laws of a search among the records of some blocks.
+use mathlib.Core.Path.{_≡_, sym, _∙_}
+use mathlib.Core.List.{List, [], _∷_}
+use Prim.Native.Nat.{ℕ, _+_, _*_, _-_, _/_, _%_, min, _≤_, _<_}
+use native.Mathlib.Decide.{decLt}
+use native.Mathlib.Omega.{arith}
+use native.Mathlib.Nat.{add-zero}
+use lib.ListN.{length, getD}
+use Rattle.image.specs.Stores.{numbersFrom}
+use Rattle.image.proofs.Numbers.{numbersFrom-length, numbersFrom-at}
+use Rattle.image.specs.Blocks.{block}
+use Rattle.image.specs.First.{first}
+use Rattle.image.proofs.First.{first-has, first-none, first-found, first-past, first-shift, first-same}
+use Rattle.header.specs.Pointers.{pointerLbn, pointerCount, runs, pointersAt, pointers, blocksOf}
+use Rattle.volume.specs.Home.{blocks}
+use Rattle.header.proofs.PointerLaws.{runs-length, runs-le, runs-at}
+use Rattle.header.proofs.WholeLaws.{whole-is}
+use Rattle.volume.specs.Volume.{header, faultOf}
+use Rattle.file.specs.Chains.{fileBlocks}
+use Rattle.file.proofs.ChainLaws.{Walk, walk-inside, walk-here}
+use Rattle.directory.specs.Records.{entryAt, wantedAt}
+use Rattle.directory.specs.Search.{wantedIn, searchIn, Inside}
+use Rattle.directory.specs.declared.records.Wanted.{Wanted}
+
+-- The blocks of part stand in the list lbns from place k on.
+pub record Part (lbns : List ℕ) (k : ℕ) (part : List ℕ) : Type 0 where
+  pub inside : k + length part ≤ length lbns
+  pub each : (i : ℕ) → i < length part → getD lbns (k + i) 0 ≡ getD part i 0
+
+module _ (image lbns : List ℕ) (w : Wanted) (from to : ℕ) where
+  -- A search ends between the two places.
+  pub search-range : from ≤ to → (r : ℕ) → r ≡ searchIn image lbns w from to → (r ≡ searchIn image lbns w from to) × (from ≤ r) × (r ≤ to)
+  unfolding searchIn
+  search-range h r e =
+      let q = first-has (wantedAt image lbns w) from (min to (32 * length lbns) - from) in
+      (e, omega (arith, e, q .low), omega (arith, e, q .high))
+
+  -- Past the last record.
+  pub search-none : min to (32 * length lbns) ≤ from → searchIn image lbns w from to ≡ from
+  unfolding searchIn
+  search-none h = first-none (wantedAt image lbns w) from (min to (32 * length lbns)) h
+
+  -- All of the records are there.
+  pub search-all : to ≤ 32 * length lbns → searchIn image lbns w from to ≡ first (wantedAt image lbns w) from (to - from)
+  unfolding searchIn
+  search-all h =
+      let e : min to (32 * length lbns) ≡ to = omega arith in
+      rw e
+
+one-record : (image : List ℕ) (l : ℕ) (w : Wanted) (i : ℕ) → i < 32 → wantedAt image (l ∷ []) w i ≡ wantedIn (block image l) w i
+unfolding wantedAt entryAt wantedIn
+one-record image l w i h =
+    let q : i / 32 ≡ 0 = omega arith in
+    let r : i % 32 ≡ i = omega arith in
+    rw (q, r)
+
+-- One block.
+pub search-one : (image : List ℕ) (l : ℕ) (w : Wanted) (from to : ℕ) → searchIn image (l ∷ []) w from to ≡ first (wantedIn (block image l) w) from (min to 32 - from)
+unfolding searchIn
+search-one image l w from to = first-same (wantedAt image (l ∷ []) w) (wantedIn (block image l) w) from (min to 32 - from) (λ i a b. same i (omega arith))
+  where
+    same : (i : ℕ) → i < 32 → wantedAt image (l ∷ []) w i ≡ wantedIn (block image l) w i
+    same i h = one-record image l w i h
+
+-- A block of a run.
+pub run-part : (lbn count k : ℕ) → k < count → Part (numbersFrom lbn count) k ((lbn + k) ∷ [])
+run-part lbn count k h = record { inside = omega (arith, numbersFrom-length lbn count); each = λ i l. at i (omega arith) }
+  where
+    at : (i : ℕ) → i ≡ 0 → getD (numbersFrom lbn count) (k + i) 0 ≡ getD ((lbn + k) ∷ []) i 0
+    at i e = rw (e, add-zero k) (numbersFrom-at lbn count k h)
+
+-- The blocks of a pointer.
+pub pointer-part : (h : List ℕ) (at p n : ℕ) → p < n → Part (runs h at n) (length (runs h at p)) (numbersFrom (pointerLbn h (at + 4 * p)) (pointerCount h (at + 4 * p)))
+pointer-part h at p n l = record {
+  inside = omega (arith, numbersFrom-length lbn count, runs-length h at p, runs-le h at (p + 1) n (omega arith));
+  each = λ i m. let few : i < count = omega (arith, numbersFrom-length lbn count) in runs-at h at p n i l few ∙ sym (numbersFrom-at lbn count i few);
+}
+  where
+    lbn : ℕ
+    lbn = pointerLbn h (at + 4 * p)
+
+    count : ℕ
+    count = pointerCount h (at + 4 * p)
+
+pub pointer-inside : (image h : List ℕ) (at p : ℕ) → Inside image h → at ≡ pointersAt h → p < pointers h → 512 * (pointerLbn h (at + 4 * p) + pointerCount h (at + 4 * p)) ≤ length image
+unfolding blocks
+pointer-inside image h at p inside e l = rw e (omega (arith, inside p l))
+
+-- A header of a file's chain: its blocks stand in the file's, and lie in the image.
+module _ (image : List ℕ) (n : ℕ) (h : List ℕ) (d : ℕ) (at : Walk image n h d) where
+  pub walk-part : Part (fileBlocks image n) d (blocksOf h)
+  walk-part = record { inside = walk-inside image n h d at; each = walk-here image n h d at }
+
+  pub walk-pointers : Inside image h
+  unfolding faultOf
+  walk-pointers = rw (at .is) at (whole-is (blocks image) (at .number) (header image (at .number)) (at .whole) .ends)
+
+-- A search that has come to a part of so many blocks, which begins at record start: it finds r in the part, counted from there.
+pub record Turn (image lbns : List ℕ) (w : Wanted) (from to start size r : ℕ) : Type 0 where
+  -- The record is found there, or what is searched ends there.
+  pub here : r < 32 * size → searchIn image lbns w from to ≡ start + r
+  -- It is not, and the search goes on behind the part.
+  pub on : 32 * size ≤ r → searchIn image lbns w from to ≡ searchIn image lbns w (start + r) to
+
+module _ (image lbns : List ℕ) (k : ℕ) (part : List ℕ) (p : Part lbns k part) (w : Wanted) (from to start r : ℕ)
+    (begins : start ≡ 32 * k) (reached : start ≤ from) (found : r ≡ searchIn image part w (from - start) (to - start)) where
+  -- A record of the part.
+  wanted-part : (i : ℕ) → i < 32 * length part → wantedAt image lbns w (start + i) ≡ wantedAt image part w i
+  unfolding wantedAt entryAt
+  wanted-part i h =
+      let q : (start + i) / 32 ≡ k + i / 32 = omega arith in
+      let m : (start + i) % 32 ≡ i % 32 = omega arith in
+      rw (q, m, p .each (i / 32) (omega arith))
+
+  -- The records of the part, in the list.
+  part-first : start + r ≡ first (wantedAt image lbns w) from (min to (start + 32 * length part) - from)
+  unfolding searchIn
+  part-first =
+      let d : min (to - start) (32 * length part) - (from - start) ≡ min to (start + 32 * length part) - from = omega arith in
+      let e : start + (from - start) ≡ from = omega arith in
+      rw (found, d, ← first-shift (wantedAt image part w) (wantedAt image lbns w) start (from - start) (min to (start + 32 * length part) - from) (λ i a b. wanted-part i (omega arith)), e)
+
+  found-here : r < 32 * length part → searchIn image lbns w from to ≡ start + r
+  unfolding searchIn
+  found-here h = go (decLt (start + r) (min to (start + 32 * length part)))
+    where
+      go : Dec (start + r < min to (start + 32 * length part)) → first (wantedAt image lbns w) from (min to (32 * length lbns) - from) ≡ start + r
+      go (yes l) =
+          first-found (wantedAt image lbns w) from (min to (start + 32 * length part)) (min to (32 * length lbns)) (omega (arith, p .inside)) (omega (arith, part-first))
+          ∙ sym part-first
+      go (no l) =
+          let e : min to (32 * length lbns) ≡ min to (start + 32 * length part) = omega (arith, p .inside) in
+          rw e (sym part-first)
+
+  goes-on : 32 * length part ≤ r → searchIn image lbns w from to ≡ searchIn image lbns w (start + r) to
+  unfolding searchIn
+  goes-on h =
+      rw part-first
+      (first-past (wantedAt image lbns w) from (min to (start + 32 * length part)) (min to (32 * length lbns)) (omega (arith, p .inside)) (omega (arith, part-first)))
+
+  pub search-turn : (size : ℕ) → length part ≡ size → Turn image lbns w from to start size r
+  search-turn size e = record { here = λ h. found-here (omega arith); on = λ h. goes-on (omega arith) }

@@ -1,0 +1,31 @@
+-- Record r is record r % 32 of block r / 32.
+use borrow.Author.Needs.{needs}
+use Prim.Native.Nat.{_/_, _%_}
+use native.Mathlib.Omega.{arith}
+use denote.Ref.{now}
+use Rattle.image.specs.Blocks.{block}
+use Rattle.image.proofs.BlockLaws.{block-length}
+use Rattle.directory.specs.Records.{entryAt}
+use Rattle.directory.specs.LookUp.{entryOfFile}
+use Rattle.directory.proofs.LookUpLaws.{block-inside}
+use Rattle.directory.proofs.search.entry_of_file.Statement.{statement}
+use Rattle.directory.proofs.search.entry_of_file.Tie as tie
+
+lbn-at-requires : tie.Need-lbn-at-requires
+lbn-at-requires c κs =
+    let k = c .before in
+    (k .pre .0 .0, k .pre .0 .1, k .pre .0 .2, omega arith)
+
+entry-at-requires : tie.Need-entry-at-requires
+entry-at-requires c κs =
+    let k = c .before .before .before in
+    let inside = block-inside (now (k .args .image)) (k .args .v) (k .args .n .0) (k .pre .0) (k .args .r / 32) (omega arith) in
+    (rw (c .block .ensures) (block-length (now (k .args .image)) (c .before .lbn-at .result .0) (omega (arith, inside, c .before .lbn-at .ensures))), search needs)
+
+returns : tie.Need-returns
+unfolding entryOfFile entryAt
+returns c = rw (c .entry-at .ensures, c .before .block .ensures, c .before .before .lbn-at .ensures)
+
+pub entry-of-file-spec : {M : Type 1} → statement M
+entry-of-file-spec =
+    tie.close (tie.spec lbn-at-requires (search needs) entry-at-requires returns)

@@ -1,0 +1,31 @@
+-- A search among the records of some blocks.
+use mathlib.Core.Path.{_≡_}
+use mathlib.Core.Bool.{Bool, true}
+use mathlib.Core.List.{List}
+use Prim.Native.Nat.{ℕ, _+_, _*_, _-_, min, _≤_, _<_}
+use lib.ListN.{length}
+use Rattle.image.specs.First.{first}
+use Rattle.header.specs.Pointers.{pointerLbn, pointerCount, pointersAt, pointers}
+use Rattle.volume.specs.Home.{blocks}
+use Rattle.volume.specs.Opening.{Open}
+use Rattle.volume.specs.declared.volume.Volume.{Volume}
+use Rattle.file.specs.Chains.{goodChain, IsFirst}
+use Rattle.directory.specs.Records.{recordIn, entryOf, isWanted, wantedAt}
+use Rattle.directory.specs.declared.records.Wanted.{Wanted}
+
+-- Record i of a block is wanted.
+unfoldable pub wantedIn : List ℕ → Wanted → ℕ → Bool
+wantedIn b w i = isWanted w (entryOf (recordIn b i))
+
+-- The first record wanted of those, from one place to before another, that the blocks in a list of LBNs hold; where there is none, the place
+-- where these end.
+unfoldable pub searchIn : List ℕ → List ℕ → Wanted → ℕ → ℕ → ℕ
+searchIn image lbns w from to = first (wantedAt image lbns w) from (min to (32 * length lbns) - from)
+
+-- 01, The header: "each pointer ends below N". The blocks of header h lie in the image.
+abbrev pub Inside : List ℕ → List ℕ → Type 0
+Inside image h = (p : ℕ) → p < pointers h → pointerLbn h (pointersAt h + 4 * p) + pointerCount h (pointersAt h + 4 * p) ≤ blocks image
+
+-- The volume opens, and the file whose first header has number n does.
+abbrev pub FileOpen : List ℕ → Volume → ℕ → Type 0
+FileOpen image v n = Open image v × IsFirst image n × (goodChain image n ≡ true)

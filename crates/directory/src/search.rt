@@ -1,0 +1,130 @@
+// Searching the records of blocks: of one, of a run, of a header, of a file. Each search takes two places, and looks at the records from the
+// first to before the second; blocks before the first are stepped over unread. A place counts records from 0, in VBN order.
+use crate::records::Entry;
+use crate::records::Wanted;
+use crate::records::entry_at;
+use crate::records::first_in_block;
+use answer::types::FileNumber;
+use file::chains::header_of;
+use file::chains::lbn_at;
+use header::fields::m_efnu;
+use header::pointers::block_count;
+use header::pointers::first_pointer;
+use header::pointers::pointer_count;
+use header::pointers::pointer_lbn;
+use header::pointers::pointer_number;
+use image::blocks::block;
+use volume::volume::Volume;
+ghost use mathlib.Core.Path.{_≡_};
+ghost use mathlib.Core.List.{[], _∷_};
+ghost use Prim.Native.Nat.{_+_, _*_, _^_, _≤_, _<_};
+ghost use lib.ListN.{length};
+ghost use Rattle.image.specs.Stores.{numbersFrom};
+ghost use Rattle.header.specs.Pointers.{Fits, blocksOf};
+ghost use Rattle.file.specs.Chains.{fileBlocks};
+ghost use Rattle.directory.specs.LookUp.{entryOfFile};
+ghost use Rattle.directory.specs.Search.{searchIn, Inside, FileOpen};
+
+// One block, by its LBN.
+fn search_block(image: &[u8], lbn: u32, from: u32, to: u32, w: Wanted) -> u32
+    requires { ⌜ (512 * lbn + 512 ≤ length (now image)) × (from < 32) × (from ≤ to) ⌝ }
+    ensures { λ r. ⌜ (r ≡ searchIn (now (image .entry)) (lbn ∷ []) w from to) × (from ≤ r) × (r ≤ to) ⌝ }
+{
+    let b = block(image, lbn);
+    if to < 32 {
+        return first_in_block(b, from, to, w);
+    }
+    first_in_block(b, from, 32, w)
+}
+
+// A run of blocks, as one retrieval pointer covers it.
+fn search_run(image: &[u8], lbn: u32, count: u32, from: u32, to: u32, w: Wanted) -> u32
+    requires { ⌜ (512 * (lbn + count) ≤ length (now image)) × (lbn < 2 ^ 24) × (count ≤ 256) × (from ≤ to) ⌝ }
+    ensures { λ r. ⌜ (r ≡ searchIn (now (image .entry)) (numbersFrom lbn count) w from to) × (from ≤ r) × (r ≤ to) ⌝ }
+{
+    let mut place = from;
+    while place < 32 * count {
+        let k = place / 32;
+        let start = 32 * k;
+        let r = search_block(image, lbn + k, place - start, to - start, w);
+        if r < 32 {
+            return start + r;
+        }
+        place = start + r;
+    }
+    place
+}
+
+// The blocks that a header covers.
+fn search_header(image: &[u8], h: &[u8], from: u32, to: u32, w: Wanted) -> u32
+    requires { ⌜ Fits (now h) × Inside (now image) (now h) × (from ≤ to) ⌝ }
+    ensures { λ r. ⌜ (r ≡ searchIn (now (image .entry)) (blocksOf (now (h .entry))) w from to) × (from ≤ r) × (r ≤ to) ⌝ }
+{
+    let first = first_pointer(h);
+    let number = pointer_number(h);
+    let mut place = from;
+    let mut start: u32 = 0;
+    let mut p: usize = 0;
+    while p < number {
+        let lbn = pointer_lbn(h, first + 4 * p);
+        let count = pointer_count(h, first + 4 * p);
+        let r = search_run(image, lbn, count, place - start, to - start, w);
+        if r < 32 * count {
+            return start + r;
+        }
+        place = start + r;
+        start += 32 * count;
+        p += 1;
+    }
+    place
+}
+
+// The blocks of the file whose first header has a number.
+pub(crate) fn search_file(
+    image: &[u8],
+    v: Volume,
+    n: FileNumber,
+    from: u32,
+    to: u32,
+    w: Wanted,
+) -> u32
+    requires { ⌜ FileOpen (now image) v (n .0) × (from ≤ to) ⌝ }
+    ensures { λ r. ⌜ (r ≡ searchIn (now (image .entry)) (fileBlocks (now (image .entry)) (n .0)) w from to) × (from ≤ r) × (r ≤ to) ⌝ }
+{
+    let number = n.0;
+    let mut h = header_of(image, v, FileNumber(number));
+    let mut place = from;
+    let mut start: u32 = 0;
+    loop {
+        let count = block_count(h);
+        let r = search_header(image, h, place - start, to - start, w);
+        if r < 32 * count {
+            return start + r;
+        }
+        place = start + r;
+        start += 32 * count;
+        let next = m_efnu(h) as u32;
+        if next == 0 {
+            return place;
+        }
+        h = header_of(image, v, FileNumber(next));
+    }
+}
+
+// How many records a file of so many blocks has.
+pub(crate) fn record_count(blocks: u32) -> u32
+    requires { ⌜ blocks ≤ 8323072 ⌝ }
+    ensures { λ r. ⌜ r ≡ 32 * blocks ⌝ }
+{
+    32 * blocks
+}
+
+// The entry in record r of the file whose first header has a number.
+pub(crate) fn entry_of_file(image: &[u8], v: Volume, n: FileNumber, r: u32) -> Entry
+    requires { ⌜ FileOpen (now image) v (n .0) × (r < 32 * length (fileBlocks (now image) (n .0))) ⌝ }
+    ensures { λ e. ⌜ e ≡ entryOfFile (now (image .entry)) (n .0) r ⌝ }
+{
+    let lbn = lbn_at(image, v, n, r / 32);
+    let b = block(image, lbn.0);
+    entry_at(b, r % 32)
+}
