@@ -1,20 +1,23 @@
 //! What the comparisons of library and model share.
 //!
 //! * [`run`]: numbers and counts the cases of a test, and reports a case that differs;
-//! * [`random`]: the generator of pseudo-random cases;
-//! * [`names`]: the comparisons of the calls on names, and the names and texts that they use.
+//! * [`names`]: the comparisons of the calls on names, and the names and texts that they use;
+//! * [`images`]: the comparisons of the calls on images;
+//! * [`asked`]: the IDs, VBNs, names and record places that are asked of a volume.
 //!
 //! The environment changes a run:
 //!
 //! * `ODS1_SEED`: the seed of the random cases (decimal, or hexadecimal after `0x`);
 //! * `ODS1_CASES`: how many cases each random test makes, for a long run;
-//! * `ODS1_CASE`: the one case to run, as a report of a difference gives it.
+//! * `ODS1_CASE`: the one case to run, as a report of a difference gives it;
+//! * `ODS1_TELL`: tells each case before it is run, to find one that ends the run without a report.
 
 #![forbid(unsafe_code)]
 
+pub mod asked;
+pub mod images;
 pub mod names;
-pub mod random;
 pub mod run;
 
-pub use random::Random;
 pub use run::Run;
+pub use volumes::Random;

@@ -1,9 +1,9 @@
 //! The comparisons of the calls on names, and the names and texts that they use.
 
-use crate::random::Random;
 use crate::run::{first_difference, show_answer, show_hex, show_text, Run};
 use model::names::{self, Name};
 use model::radix50;
+use volumes::Random;
 
 /// The bytes that stand before and after each buffer and text that is lent to the library.
 const BESIDE: usize = 32;

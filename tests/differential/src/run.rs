@@ -1,10 +1,11 @@
 //! The run of one test: it numbers and counts the cases, and reports a case that differs.
 
-use crate::random::Random;
 use model::Number;
+use std::collections::BTreeMap;
 use std::env;
 use std::io::{self, Write};
 use std::thread;
+use volumes::Random;
 
 /// The seed of the random cases where the environment gives none.
 const SEED: u64 = 0x0d51_1986;
@@ -16,6 +17,8 @@ struct Settings {
     cases: Option<u64>,
     /// The one case to run.
     only: Option<u64>,
+    /// Whether each case is told before it is run.
+    tell: bool,
 }
 
 impl Settings {
@@ -24,6 +27,7 @@ impl Settings {
             seed: from_environment("ODS1_SEED").unwrap_or(SEED),
             cases: from_environment("ODS1_CASES"),
             only: from_environment("ODS1_CASE"),
+            tell: from_environment("ODS1_TELL").is_some(),
         }
     }
 }
@@ -55,6 +59,8 @@ pub struct Run {
     under_way: Option<u64>,
     /// How many cases were compared.
     compared: u64,
+    /// How often something was met: its kind, its number, and how often.
+    met: BTreeMap<(&'static str, u64), u64>,
 }
 
 /// A line of a report: what it tells, and what it says.
@@ -76,6 +82,7 @@ impl Run {
             next: 0,
             under_way: None,
             compared: 0,
+            met: BTreeMap::new(),
         };
         cases(&mut run);
         run.under_way = None;
@@ -102,7 +109,54 @@ impl Run {
         }
         self.under_way = Some(case);
         self.compared += 1;
+        if self.settings.tell {
+            tell(&self.show_case(case));
+        }
         true
+    }
+
+    /// Runs random cases, each with its generator: as many as the environment says, or else
+    /// `usual`.
+    pub fn random_cases(&mut self, usual: u64, mut case: impl FnMut(&mut Run, &mut Random)) {
+        for _ in 0..self.cases(usual) {
+            let mut random = self.random();
+            if self.next_case() {
+                case(self, &mut random);
+            }
+        }
+    }
+
+    /// The seed of the run, for what all cases share.
+    pub fn seed(&self) -> u64 {
+        self.settings.seed
+    }
+
+    /// Counts that something was met: a call that answers a number, or any other kind of thing.
+    pub fn meet(&mut self, kind: &'static str, number: u64) {
+        *self.met.entry((kind, number)).or_insert(0) += 1;
+    }
+
+    /// Sees that each of these numbers of a kind was met often enough: a test that never meets a
+    /// refusal says nothing of it.
+    pub fn expect_met(
+        &mut self,
+        kind: &'static str,
+        numbers: impl IntoIterator<Item = u64>,
+        least: u64,
+    ) {
+        self.under_way = None;
+        if self.settings.only.is_some() {
+            return;
+        }
+        for number in numbers {
+            let met = self.met.get(&(kind, number)).copied().unwrap_or(0);
+            assert!(
+                met >= least,
+                "{} {} met {kind} {number} {met} times, and at least {least} are asked for",
+                self.target,
+                self.test
+            );
+        }
     }
 
     /// Fails the test with a report of the case under way.
@@ -148,16 +202,48 @@ impl Run {
         );
     }
 
-    /// Tells how many cases were compared, past the test harness, which keeps back what a passing
-    /// test prints.
+    /// Tells how many cases were compared, and how often each answer was met.
     fn tell(&self) {
-        let line = format!(
-            "{} {}: {} cases compared\n",
-            self.target, self.test, self.compared
-        );
-        let told = io::stderr().write_all(line.as_bytes());
-        told.expect("standard error takes a line");
+        tell(&format!(
+            "{} {}: {} cases compared{}\n",
+            self.target,
+            self.test,
+            self.compared,
+            self.show_answers()
+        ));
     }
+
+    /// How often each number was answered, by whatever call.
+    fn show_answers(&self) -> String {
+        let mut text = String::new();
+        for number in Number::all() {
+            let of_number = self.met.iter().filter(|(kind, _)| {
+                let (call, answered) = **kind;
+                CALLS.contains(&call) && answered == number.number()
+            });
+            let times: u64 = of_number.map(|(_, times)| times).sum();
+            if times > 0 {
+                text += &format!(", {} {times}", number.name());
+            }
+        }
+        text
+    }
+}
+
+/// The kinds of things met that are calls, and their numbers answers.
+pub const CALLS: [&str; 6] = [
+    "open_volume",
+    "open_file",
+    "map",
+    "block",
+    "look_up",
+    "next_record",
+];
+
+/// Tells something past the test harness, which keeps back what a passing test prints.
+fn tell(text: &str) {
+    let told = io::stderr().write_all(text.as_bytes());
+    told.expect("standard error takes a line");
 }
 
 /// A test that fails in a case, by a report or by any other panic, tells how to run the case again.
@@ -245,10 +331,12 @@ mod tests {
                 seed: 5,
                 cases: None,
                 only,
+                tell: false,
             },
             next: 0,
             under_way: None,
             compared: 0,
+            met: BTreeMap::new(),
         }
     }
 
@@ -291,6 +379,31 @@ mod tests {
         let mut one = run(Some(9));
         one.next_case();
         one.expect_enough(1000);
+    }
+
+    #[test]
+    fn what_is_met_is_counted() {
+        let mut all = run(None);
+        all.meet("map", 13);
+        all.meet("map", 0);
+        all.meet("block", 13);
+        all.meet("bad link", 13);
+        all.expect_met("map", [0, 13], 1);
+        assert_eq!(all.show_answers(), ", DONE 1, VBN 2");
+    }
+
+    #[test]
+    #[should_panic(expected = "met map 13 1 times, and at least 2 are asked for")]
+    fn what_is_met_too_rarely_fails() {
+        let mut all = run(None);
+        all.meet("map", 13);
+        all.meet("block", 13);
+        all.expect_met("map", [13], 2);
+    }
+
+    #[test]
+    fn one_case_alone_need_meet_nothing() {
+        run(Some(1)).expect_met("map", [13], 2);
     }
 
     #[test]

@@ -2,6 +2,12 @@
 //!
 //! Each call answers the twelve words that the library wrote: number, place, ten value words. A
 //! word that the library did not write is seen as [`UNWRITTEN`].
+//!
+//! [`Lender`] lends an image so that a write to it, or a read beside it, ends the run.
+
+mod lend;
+
+pub use lend::Lender;
 
 /// How many words an answer has.
 pub const ANSWER_WORDS: usize = 12;
@@ -17,6 +23,61 @@ mod exported {
 
     // A slice passes as its pointer, and then its length.
     extern "C" {
+        pub fn ods1_open_volume(image: *const u8, image_len: usize, answer: *mut Words);
+
+        pub fn ods1_open_file(
+            image: *const u8,
+            image_len: usize,
+            number: u16,
+            sequence: u16,
+            volume: u16,
+            answer: *mut Words,
+        );
+
+        pub fn ods1_map(
+            image: *const u8,
+            image_len: usize,
+            number: u16,
+            sequence: u16,
+            volume: u16,
+            vbn: u32,
+            answer: *mut Words,
+        );
+
+        pub fn ods1_block(
+            image: *const u8,
+            image_len: usize,
+            number: u16,
+            sequence: u16,
+            volume: u16,
+            vbn: u32,
+            answer: *mut Words,
+        );
+
+        pub fn ods1_look_up(
+            image: *const u8,
+            image_len: usize,
+            number: u16,
+            sequence: u16,
+            volume: u16,
+            name1: u16,
+            name2: u16,
+            name3: u16,
+            typ: u16,
+            version: u16,
+            answer: *mut Words,
+        );
+
+        pub fn ods1_next_record(
+            image: *const u8,
+            image_len: usize,
+            number: u16,
+            sequence: u16,
+            volume: u16,
+            place: u32,
+            answer: *mut Words,
+        );
+
         pub fn ods1_text_to_name(text: *const u8, text_len: usize, answer: *mut Words);
 
         pub fn ods1_name_to_text(
@@ -68,6 +129,117 @@ pub fn name_to_text(words: [u16; 5], text: &mut [u8]) -> Words {
                 version,
                 text.as_mut_ptr(),
                 text.len(),
+                answer,
+            )
+        }
+    })
+}
+
+// SAFETY, of all calls on an image: the pointer and length are those of a slice that outlives the
+// call and that nobody writes to meanwhile, and the answer is twelve words that nothing else refers
+// to during the call.
+
+/// `ods1_open_volume`: the home's LBN.
+pub fn open_volume(image: &[u8]) -> Words {
+    answer_of(|answer| {
+        // SAFETY: as above.
+        unsafe { exported::ods1_open_volume(image.as_ptr(), image.len(), answer) }
+    })
+}
+
+/// `ods1_open_file`: the block count of the file with this ID (number, sequence, volume).
+pub fn open_file(image: &[u8], id: [u16; 3]) -> Words {
+    let [number, sequence, volume] = id;
+    answer_of(|answer| {
+        // SAFETY: as above.
+        unsafe {
+            exported::ods1_open_file(
+                image.as_ptr(),
+                image.len(),
+                number,
+                sequence,
+                volume,
+                answer,
+            )
+        }
+    })
+}
+
+/// `ods1_map`: the LBN of a file's VBN.
+pub fn map(image: &[u8], id: [u16; 3], vbn: u32) -> Words {
+    let [number, sequence, volume] = id;
+    answer_of(|answer| {
+        // SAFETY: as above.
+        unsafe {
+            exported::ods1_map(
+                image.as_ptr(),
+                image.len(),
+                number,
+                sequence,
+                volume,
+                vbn,
+                answer,
+            )
+        }
+    })
+}
+
+/// `ods1_block`: where in the image the block of a file's VBN is, and how long.
+pub fn block(image: &[u8], id: [u16; 3], vbn: u32) -> Words {
+    let [number, sequence, volume] = id;
+    answer_of(|answer| {
+        // SAFETY: as above.
+        unsafe {
+            exported::ods1_block(
+                image.as_ptr(),
+                image.len(),
+                number,
+                sequence,
+                volume,
+                vbn,
+                answer,
+            )
+        }
+    })
+}
+
+/// `ods1_look_up`: the ID that a directory has for a name's five words (name, type, version).
+pub fn look_up(image: &[u8], id: [u16; 3], name: [u16; 5]) -> Words {
+    let [number, sequence, volume] = id;
+    let [name1, name2, name3, typ, version] = name;
+    answer_of(|answer| {
+        // SAFETY: as above.
+        unsafe {
+            exported::ods1_look_up(
+                image.as_ptr(),
+                image.len(),
+                number,
+                sequence,
+                volume,
+                name1,
+                name2,
+                name3,
+                typ,
+                version,
+                answer,
+            )
+        }
+    })
+}
+
+/// `ods1_next_record`: the first record of a directory from a place on, and the place after it.
+pub fn next_record(image: &[u8], id: [u16; 3], place: u32) -> Words {
+    let [number, sequence, volume] = id;
+    answer_of(|answer| {
+        // SAFETY: as above.
+        unsafe {
+            exported::ods1_next_record(
+                image.as_ptr(),
+                image.len(),
+                number,
+                sequence,
+                volume,
+                place,
                 answer,
             )
         }

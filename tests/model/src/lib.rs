@@ -7,13 +7,28 @@
 //!
 //! * [`answer`]: "Answer numbers", the form of every answer;
 //! * [`radix50`]: "Names and directories", words of three characters;
-//! * [`names`]: "Names and directories", proper names as five words and as text.
+//! * [`names`]: "Names and directories", proper names as five words and as text;
+//! * [`image`]: "The work and its edge" and "The volume", blocks, words, bits and the checksum;
+//! * [`header`]: "The header", its fields, when it is whole, and its pointers;
+//! * [`volume`]: "The volume", opening one, slots, numbers in use, and chains of headers;
+//! * [`file`]: "The header" and "Answer numbers", opening a file, its blocks;
+//! * [`directory`]: "Names and directories", look-up and the walker's step.
 
 #![forbid(unsafe_code)]
 
 pub mod answer;
+pub mod directory;
+pub mod file;
+pub mod header;
+pub mod image;
 pub mod names;
 pub mod radix50;
+pub mod volume;
+
+#[cfg(test)]
+mod sample;
 
 pub use answer::{Answer, Number};
+pub use file::Id;
+pub use image::{FileNumber, Lbn, Vbn};
 pub use names::Name;

@@ -45,6 +45,16 @@ impl Random {
         first + self.below((last - first + 1) as u64) as usize
     }
 
+    /// A byte from `first` to `last`, both included.
+    pub fn byte_between(&mut self, first: u8, last: u8) -> u8 {
+        self.between(usize::from(first), usize::from(last)) as u8
+    }
+
+    /// A number of 32 bits from `first` to `last`, both included.
+    pub fn long_between(&mut self, first: u32, last: u32) -> u32 {
+        self.between(first as usize, last as usize) as u32
+    }
+
     /// True once in `times`.
     pub fn once_in(&mut self, times: u64) -> bool {
         self.below(times) == 0
@@ -59,6 +69,14 @@ impl Random {
     pub fn word(&mut self) -> u16 {
         let bytes = self.number().to_le_bytes();
         u16::from_le_bytes([bytes[0], bytes[1]])
+    }
+
+    /// Fills bytes with any.
+    pub fn fill(&mut self, bytes: &mut [u8]) {
+        for eight in bytes.chunks_mut(8) {
+            let number = self.number().to_le_bytes();
+            eight.copy_from_slice(&number[..eight.len()]);
+        }
     }
 
     /// One of the items, of which there is at least one.

@@ -1,0 +1,173 @@
+//! The comparisons of the calls on images.
+
+use crate::run::{first_difference, show_answer, Line, Run};
+use library::Words;
+use model::file::{self, Opened};
+use model::volume::{self, BadLink};
+use model::{directory, Id, Name, Number, Vbn};
+
+/// A call on an image, with its arguments.
+#[derive(Clone, Copy, Debug, PartialEq, Eq)]
+pub enum Call {
+    OpenVolume,
+    OpenFile(Id),
+    Map(Id, u32),
+    Block(Id, u32),
+    LookUp(Id, [u16; 5]),
+    NextRecord(Id, u32),
+}
+
+impl Call {
+    /// Its name, one of `run::CALLS`.
+    fn name(self) -> &'static str {
+        match self {
+            Call::OpenVolume => "open_volume",
+            Call::OpenFile(_) => "open_file",
+            Call::Map(..) => "map",
+            Call::Block(..) => "block",
+            Call::LookUp(..) => "look_up",
+            Call::NextRecord(..) => "next_record",
+        }
+    }
+
+    /// What the library answers.
+    pub fn by_library(self, image: &[u8]) -> Words {
+        match self {
+            Call::OpenVolume => library::open_volume(image),
+            Call::OpenFile(id) => library::open_file(image, id.words()),
+            Call::Map(id, vbn) => library::map(image, id.words(), vbn),
+            Call::Block(id, vbn) => library::block(image, id.words(), vbn),
+            Call::LookUp(id, name) => library::look_up(image, id.words(), name),
+            Call::NextRecord(id, place) => library::next_record(image, id.words(), place),
+        }
+    }
+
+    /// What the model answers. The file of the call's ID is opened already.
+    fn by_model(self, image: &[u8], opened: &Opened) -> Words {
+        let answer = match self {
+            Call::OpenVolume => volume::open_volume(image),
+            Call::OpenFile(_) => file::answer_open(opened),
+            Call::Map(_, vbn) => file::answer_map(opened, Vbn(vbn.into())),
+            Call::Block(_, vbn) => file::answer_block(opened, Vbn(vbn.into())),
+            Call::LookUp(_, name) => directory::answer_look_up(opened, &Name::from_words(name)),
+            Call::NextRecord(_, place) => directory::answer_next_record(opened, place.into()),
+        };
+        answer.words()
+    }
+}
+
+/// What is asked of one file: its ID, and the arguments of the calls on it.
+#[derive(Clone, Debug)]
+pub struct Asked {
+    pub id: Id,
+    pub vbns: Vec<u32>,
+    pub names: Vec<[u16; 5]>,
+    pub places: Vec<u32>,
+}
+
+/// An image that is lent to the library, and what a report says of it.
+pub struct Subject<'a> {
+    pub image: &'a [u8],
+    pub story: &'a [Line],
+}
+
+impl Subject<'_> {
+    /// Compares one call of library and model: all words of the answer.
+    fn compare(&self, run: &mut Run, call: Call, opened: &Opened) {
+        let answer = call.by_library(self.image);
+        let expected = call.by_model(self.image, opened);
+        run.meet(call.name(), expected[0]);
+        if answer != expected {
+            self.fail(run, call, &answer, &expected, "model");
+        }
+    }
+
+    /// Sees that a call of the library answers a number that was expected without the model.
+    pub fn expect(&self, run: &mut Run, call: Call, expected: Number) {
+        let answer = call.by_library(self.image);
+        if answer[0] != expected.number() {
+            let mut words = [0; 12];
+            words[0] = expected.number();
+            self.fail(run, call, &answer, &words, "the paper");
+        }
+    }
+
+    /// Sees that a call of the library answers words that were expected without the model.
+    pub fn expect_words(&self, run: &mut Run, call: Call, value: &[u64]) {
+        let answer = call.by_library(self.image);
+        let mut words = [0; 12];
+        words[2..2 + value.len()].copy_from_slice(value);
+        if answer != words {
+            self.fail(run, call, &answer, &words, "the builder");
+        }
+    }
+
+    /// Reports a call that is answered wrongly.
+    fn fail(&self, run: &Run, call: Call, answer: &Words, expected: &Words, by: &'static str) -> ! {
+        let mut lines = self.story.to_vec();
+        lines.extend([
+            ("image", format!("{} bytes", self.image.len())),
+            ("call", format!("{call:?}")),
+            ("differs first", first_difference(answer, expected)),
+            ("library", show_answer(answer)),
+            (by, show_answer(expected)),
+        ]);
+        run.fail("the library answers otherwise", &lines);
+    }
+
+    /// Compares opening the volume.
+    pub fn compare_volume(&self, run: &mut Run) {
+        let nothing = Err(Number::Number);
+        self.compare(run, Call::OpenVolume, &nothing);
+    }
+
+    /// Compares all that is asked of one file.
+    pub fn compare_file(&self, run: &mut Run, asked: &Asked) {
+        let id = asked.id;
+        let opened = file::open(self.image, id);
+        self.meet_cause(run, id, &opened);
+        self.compare(run, Call::OpenFile(id), &opened);
+        for &vbn in &asked.vbns {
+            self.compare(run, Call::Map(id, vbn), &opened);
+            self.compare(run, Call::Block(id, vbn), &opened);
+        }
+        for &name in &asked.names {
+            self.compare(run, Call::LookUp(id, name), &opened);
+        }
+        for &place in &asked.places {
+            self.compare(run, Call::NextRecord(id, place), &opened);
+        }
+    }
+
+    /// Counts which of the header's tests was not met, or what was wrong with a link.
+    fn meet_cause(&self, run: &mut Run, id: Id, opened: &Opened) {
+        match opened {
+            Err(Number::Header) => {
+                let test = file::unmet_test(self.image, id).expect("a test that is not met");
+                run.meet(UNMET_TEST, test as u64);
+            }
+            Err(Number::Chain) => {
+                let link = file::bad_link(self.image, id).expect("a bad link");
+                run.meet(BAD_LINK, link_number(link));
+            }
+            _ => (),
+        }
+    }
+}
+
+/// The kind of what is met where a header is not whole: the test, 1 to 12.
+pub const UNMET_TEST: &str = "unmet test of a header";
+
+/// The kind of what is met where a link is bad: see `link_number`.
+pub const BAD_LINK: &str = "bad link";
+
+/// A number for what is wrong with a link: 1 to 12 for a test of a whole header, then 13 to 16.
+fn link_number(link: BadLink) -> u64 {
+    match link {
+        BadLink::NotWhole(test) => test as u64,
+        BadLink::NotInUse => 13,
+        BadLink::NoSlot => 14,
+        BadLink::Sequence => 15,
+        BadLink::Segment => 16,
+    }
+}

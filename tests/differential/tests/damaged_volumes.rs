@@ -1,0 +1,243 @@
+//! Damaged volumes: each named damage against what the paper says of it, and those and random ones
+//! against the model.
+
+use differential::asked::{ids, some_of_volume};
+use differential::images::{Asked, Call, Subject, BAD_LINK, UNMET_TEST};
+use differential::{Random, Run};
+use library::Lender;
+use model::Id;
+use volumes::accident::{random_changes, random_image, random_length};
+use volumes::damage::{damages, volumes_to_damage, Checksums, Damage, Expected};
+use volumes::shapes::{random_volume, Size};
+use volumes::volume_v::{volume_v, READS};
+use volumes::Volume;
+
+/// The call that a damage says the answer of.
+fn call_of(expected: Expected) -> Call {
+    match expected {
+        Expected::Volume(_) => Call::OpenVolume,
+        Expected::File(id, _) => Call::OpenFile(id),
+    }
+}
+
+/// Compares a damaged volume with the model. Calls are chosen from what was there before.
+fn compare_damaged(run: &mut Run, random: &mut Random, sound: &Volume, subject: &Subject) {
+    subject.compare_volume(run);
+    for asked in some_of_volume(random, sound, subject.image) {
+        subject.compare_file(run, &asked);
+    }
+}
+
+/// One named damage of a volume, if it applies: what the paper says of it, and the model.
+fn compare_named(
+    run: &mut Run,
+    lender: &mut Lender,
+    (damage, checksums): (&Damage, Checksums),
+    sound: &Volume,
+) {
+    let mut random = run.random();
+    let mut damaged = sound.clone();
+    let Some(expected) = damage.apply(&mut damaged, checksums) else {
+        return;
+    };
+    if !run.next_case() {
+        return;
+    }
+    let story = [
+        ("volume", sound.describe()),
+        ("damage", damage.name.clone()),
+        ("checksums", format!("{checksums:?}")),
+        ("expected", format!("{expected:?}")),
+    ];
+    let subject = Subject {
+        image: lender.lend(&damaged.image),
+        story: &story,
+    };
+    subject.expect(run, call_of(expected), expected.number());
+    compare_damaged(run, &mut random, sound, &subject);
+}
+
+/// Every named damage on many volumes, with checksums put right and left.
+#[test]
+fn named_damages() {
+    Run::of(module_path!(), "named_damages", 8_000, |run| {
+        let volumes = volumes_to_damage(run.seed(), 12);
+        let mut lender = Lender::new();
+        for damage in damages() {
+            for sound in &volumes {
+                for checksums in [Checksums::PutRight, Checksums::Left] {
+                    compare_named(run, &mut lender, (&damage, checksums), sound);
+                }
+            }
+        }
+        run.expect_met("open_volume", [2, 3, 4, 5], 200);
+        run.expect_met("open_file", 6..=12, 200);
+        run.expect_met(UNMET_TEST, 1..=12, 10);
+        run.expect_met(BAD_LINK, 1..=16, 10);
+    });
+}
+
+/// Damages a volume in some ways one after the other, and tells them.
+fn damage_together(random: &mut Random, damages: &[Damage], volume: &mut Volume) -> String {
+    let count = random.between(2, 4);
+    let mut told = Vec::new();
+    while told.len() < count {
+        let damage = random.pick(damages);
+        let checksums = *random.pick(&[Checksums::PutRight, Checksums::Left]);
+        let mut damaged = volume.clone();
+        if damage.apply(&mut damaged, checksums).is_some() {
+            told.push(format!("{} ({checksums:?})", damage.name));
+            *volume = damaged;
+        }
+    }
+    told.join("; ")
+}
+
+/// Two to four named damages at once: the first refusal is given.
+#[test]
+fn damages_together() {
+    Run::of(module_path!(), "damages_together", 4_000, |run| {
+        let volumes = volumes_to_damage(run.seed(), 40);
+        let small = &volumes[..40];
+        let damages = damages();
+        let mut lender = Lender::new();
+        run.random_cases(4_000, |run, random| {
+            let sound = random.pick(small);
+            let mut damaged = sound.clone();
+            let told = damage_together(random, &damages, &mut damaged);
+            let subject = Subject {
+                image: lender.lend(&damaged.image),
+                story: &[("volume", sound.describe()), ("damages", told)],
+            };
+            compare_damaged(run, random, sound, &subject);
+        });
+        run.expect_met("open_volume", [0, 2, 3, 4, 5], 50);
+        run.expect_met("open_file", 7..=12, 20);
+    });
+}
+
+/// Random changes where the rules look, on a new volume each time.
+#[test]
+fn random_damages() {
+    Run::of(module_path!(), "random_damages", 12_000, |run| {
+        let mut lender = Lender::new();
+        run.random_cases(12_000, |run, random| {
+            let size = if random.once_in(200) {
+                Size::Medium
+            } else {
+                Size::Small
+            };
+            let sound = random_volume(random, size);
+            let mut damaged = sound.clone();
+            let changes = random_changes(random, &mut damaged);
+            let subject = Subject {
+                image: lender.lend(&damaged.image),
+                story: &[("volume", sound.describe()), ("changes", changes)],
+            };
+            compare_damaged(run, random, &sound, &subject);
+        });
+        run.expect_met("open_volume", [0, 2, 3, 4, 5], 100);
+        run.expect_met("open_file", [0].into_iter().chain(2..=12), 100);
+        run.expect_met("map", [0].into_iter().chain(2..=13), 20);
+        run.expect_met("block", [0].into_iter().chain(2..=13), 20);
+        run.expect_met("look_up", [0].into_iter().chain(2..=12), 10);
+        run.expect_met("look_up", [14, 15], 500);
+        run.expect_met("next_record", [0, 15], 500);
+        run.expect_met(UNMET_TEST, 1..=12, 5);
+        run.expect_met(BAD_LINK, [13, 15, 16], 20);
+    });
+}
+
+/// Random changes of Volume V.
+#[test]
+fn random_damages_of_volume_v() {
+    let test = "random_damages_of_volume_v";
+    Run::of(module_path!(), test, 6_000, |run| {
+        let mut lender = Lender::new();
+        let sound = volume_v();
+        run.random_cases(6_000, |run, random| {
+            let mut damaged = sound.clone();
+            let changes = random_changes(random, &mut damaged);
+            let subject = Subject {
+                image: lender.lend(&damaged.image),
+                story: &[("changes of V", changes)],
+            };
+            compare_damaged(run, random, &sound, &subject);
+        });
+        run.expect_met("open_volume", [0, 2, 3, 4, 5], 100);
+        run.expect_met("open_file", [7, 8, 9, 10, 11, 12], 20);
+    });
+}
+
+/// A few calls on a file.
+fn few_of(id: Id) -> Asked {
+    Asked {
+        id,
+        vbns: vec![0, 1],
+        names: vec![READS],
+        places: vec![0],
+    }
+}
+
+/// Images of any bytes, some with a home block, and lengths of every kind.
+#[test]
+fn random_images() {
+    Run::of(module_path!(), "random_images", 6_000, |run| {
+        let mut lender = Lender::new();
+        run.random_cases(6_000, |run, random| {
+            let mut image = random_image(random);
+            let mut told = format!("{} bytes", image.len());
+            if random.once_in(4) {
+                told = random_length(random, &mut image);
+            }
+            let subject = Subject {
+                image: lender.lend(&image),
+                story: &[("any bytes", told)],
+            };
+            subject.compare_volume(run);
+            for number in [0, 1, 2, 17] {
+                let id = Id::from_words([number, number, 0]);
+                subject.compare_file(run, &few_of(id));
+            }
+        });
+        run.expect_met("open_volume", [1, 2, 3, 4, 5], 50);
+        run.expect_met("next_record", [15], 1_000);
+    });
+}
+
+/// Makes an image longer or shorter, by bytes or by blocks, and tells.
+fn make_other_length(random: &mut Random, image: &mut Vec<u8>) -> String {
+    if random.once_in(2) {
+        return random_length(random, image);
+    }
+    let blocks = random.between(98, image.len() / 512 + 3);
+    image.resize(512 * blocks, 0);
+    format!("{blocks} blocks")
+}
+
+/// Sound volumes cut short or made longer: by bytes it is SIZE, by blocks it may be anything.
+#[test]
+fn other_lengths() {
+    Run::of(module_path!(), "other_lengths", 2_000, |run| {
+        let mut lender = Lender::new();
+        run.random_cases(2_000, |run, random| {
+            let sound = random_volume(random, Size::Small);
+            let mut image = sound.image.clone();
+            let told = make_other_length(random, &mut image);
+            let subject = Subject {
+                image: lender.lend(&image),
+                story: &[("volume", sound.describe()), ("made", told)],
+            };
+            subject.compare_volume(run);
+            let ids = ids(&sound);
+            for id in [sound.file(sound.roles.plain).id(), *random.pick(&ids)] {
+                subject.compare_file(run, &few_of(id));
+            }
+        });
+        run.expect_met("open_volume", [0, 1, 2, 4, 5], 20);
+        run.expect_met("open_file", [1], 500);
+        run.expect_met("map", [1], 500);
+        run.expect_met("block", [1], 500);
+        run.expect_met("look_up", [1], 500);
+    });
+}

@@ -1,0 +1,31 @@
+//! The volumes of the tests, sound and damaged.
+//!
+//! They are built from the rules of paper 01, apart from the model: the model reads volumes and
+//! this crate writes them, so that a slip in one is seen against the other.
+//!
+//! * [`random`]: the generator of pseudo-random numbers;
+//! * [`block`]: words and checksums of a block;
+//! * [`header`]: what a header says, and how it is put;
+//! * [`volume`]: a volume, and the knowledge of what was put where;
+//! * [`volume_v`]: the paper's own example;
+//! * [`space`]: the blocks of a volume that are taken and free;
+//! * [`directory`]: records of every kind, and names;
+//! * [`shapes`]: sound volumes of every shape, at random;
+//! * [`damage`]: each way that a rule can be broken, with what is then answered;
+//! * [`accident`]: random changes of a volume, and images of any bytes.
+
+#![forbid(unsafe_code)]
+
+pub mod accident;
+pub mod block;
+pub mod damage;
+pub mod directory;
+pub mod header;
+pub mod random;
+pub mod shapes;
+pub mod space;
+pub mod volume;
+pub mod volume_v;
+
+pub use random::Random;
+pub use volume::Volume;
