@@ -47,6 +47,7 @@ module _ (image lbns : List ℕ) (w : Wanted) (from to : ℕ) where
       let e : min to (32 * length lbns) ≡ to = omega arith in
       rw e
 
+-- One block.
 one-record : (image : List ℕ) (l : ℕ) (w : Wanted) (i : ℕ) → i < 32 → wantedAt image (l ∷ []) w i ≡ wantedIn (block image l) w i
 unfolding wantedAt entryAt wantedIn
 one-record image l w i h =
@@ -54,13 +55,9 @@ one-record image l w i h =
     let r : i % 32 ≡ i = omega arith in
     rw (q, r)
 
--- One block.
 pub search-one : (image : List ℕ) (l : ℕ) (w : Wanted) (from to : ℕ) → searchIn image (l ∷ []) w from to ≡ first (wantedIn (block image l) w) from (min to 32 - from)
 unfolding searchIn
-search-one image l w from to = first-same (wantedAt image (l ∷ []) w) (wantedIn (block image l) w) from (min to 32 - from) (λ i a b. same i (omega arith))
-  where
-    same : (i : ℕ) → i < 32 → wantedAt image (l ∷ []) w i ≡ wantedIn (block image l) w i
-    same i h = one-record image l w i h
+search-one image l w from to = first-same (wantedAt image (l ∷ []) w) (wantedIn (block image l) w) from (min to 32 - from) (λ i a b. one-record image l w i (omega arith))
 
 -- A block of a run.
 pub run-part : (lbn count k : ℕ) → k < count → Part (numbersFrom lbn count) k ((lbn + k) ∷ [])
@@ -69,7 +66,7 @@ run-part lbn count k h = record { inside = omega (arith, numbersFrom-length lbn 
     at : (i : ℕ) → i ≡ 0 → getD (numbersFrom lbn count) (k + i) 0 ≡ getD ((lbn + k) ∷ []) i 0
     at i e = rw (e, add-zero k) (numbersFrom-at lbn count k h)
 
--- The blocks of a pointer.
+-- The blocks of a pointer: they stand in the header's, and lie in the image.
 pub pointer-part : (h : List ℕ) (at p n : ℕ) → p < n → Part (runs h at n) (length (runs h at p)) (numbersFrom (pointerLbn h (at + 4 * p)) (pointerCount h (at + 4 * p)))
 pointer-part h at p n l = record {
   inside = omega (arith, numbersFrom-length lbn count, runs-length h at p, runs-le h at (p + 1) n (omega arith));

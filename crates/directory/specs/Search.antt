@@ -13,16 +13,16 @@ use Rattle.file.specs.Chains.{goodChain, IsFirst}
 use Rattle.directory.specs.Records.{recordIn, entryOf, isWanted, wantedAt}
 use Rattle.directory.specs.declared.records.Wanted.{Wanted}
 
--- Record i of a block is wanted.
+-- The test of a search, at record i of one block.
 unfoldable pub wantedIn : List ℕ → Wanted → ℕ → Bool
 wantedIn b w i = isWanted w (entryOf (recordIn b i))
 
--- The first record wanted of those, from one place to before another, that the blocks in a list of LBNs hold; where there is none, the place
--- where these end.
+-- 01, Names and directories: "the first equal record not empty, in VBN order", and the walker's "next record". The first record wanted of those,
+-- from one place to before another, that the blocks in a list of LBNs hold; where there is none, the place where these end.
 unfoldable pub searchIn : List ℕ → List ℕ → Wanted → ℕ → ℕ → ℕ
 searchIn image lbns w from to = first (wantedAt image lbns w) from (min to (32 * length lbns) - from)
 
--- 01, The header: "each pointer ends below N". The blocks of header h lie in the image.
+-- 01, The header: "each pointer ends below N". So the blocks of header h lie in the image.
 abbrev pub Inside : List ℕ → List ℕ → Type 0
 Inside image h = (p : ℕ) → p < pointers h → pointerLbn h (pointersAt h + 4 * p) + pointerCount h (pointersAt h + 4 * p) ≤ blocks image
 

@@ -78,7 +78,7 @@ fn is_named(b: &[u8], i: u32, name: Name) -> bool
         & (word_at(b, at + 14) == name.version)
 }
 
-// The first of the records of a block, from one place to before another, that is not empty; that place where none is.
+// Of the records of a block from one place to before another, the first that is not empty; the second place where none is.
 fn first_filled(b: &[u8], from: u32, to: u32) -> u32
     requires { ⌜ (length (now b) ≡ 512) × (from ≤ to) × (to ≤ 32) ⌝ }
     ensures { λ r. ⌜ r ≡ first (wantedIn (now (b .entry)) Any) from (to - from) ⌝ }
@@ -94,7 +94,7 @@ fn first_filled(b: &[u8], from: u32, to: u32) -> u32
     i
 }
 
-// The first that is not empty and has this name.
+// The same, for a record that is not empty and has this name.
 fn first_named(b: &[u8], from: u32, to: u32, name: Name) -> u32
     requires { ⌜ (length (now b) ≡ 512) × (from ≤ to) × (to ≤ 32) ⌝ }
     ensures { λ r. ⌜ r ≡ first (wantedIn (now (b .entry)) (Named name)) from (to - from) ⌝ }
@@ -110,7 +110,7 @@ fn first_named(b: &[u8], from: u32, to: u32, name: Name) -> u32
     i
 }
 
-// The first that is wanted.
+// The same, for a record that is wanted.
 pub(crate) fn first_in_block(b: &[u8], from: u32, to: u32, w: Wanted) -> u32
     requires { ⌜ (length (now b) ≡ 512) × (from ≤ to) × (to ≤ 32) ⌝ }
     ensures { λ r. ⌜ r ≡ first (wantedIn (now (b .entry)) w) from (to - from) ⌝ }

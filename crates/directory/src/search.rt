@@ -1,5 +1,6 @@
 // Searching the records of blocks: of one, of a run, of a header, of a file. Each search takes two places, and looks at the records from the
-// first to before the second; blocks before the first are stepped over unread. A place counts records from 0, in VBN order.
+// first to before the second; blocks before the first are stepped over unread. Places count records from 0, in VBN order. A search answers the
+// place of the first record wanted, or where it ended.
 use crate::records::Entry;
 use crate::records::Wanted;
 use crate::records::entry_at;
@@ -17,7 +18,7 @@ use image::blocks::block;
 use volume::volume::Volume;
 ghost use mathlib.Core.Path.{_≡_};
 ghost use mathlib.Core.List.{[], _∷_};
-ghost use Prim.Native.Nat.{_+_, _*_, _^_, _≤_, _<_};
+ghost use Prim.Native.Nat.{_+_, _*_, _^_, min, _≤_, _<_};
 ghost use lib.ListN.{length};
 ghost use Rattle.image.specs.Stores.{numbersFrom};
 ghost use Rattle.header.specs.Pointers.{Fits, blocksOf};
@@ -25,16 +26,20 @@ ghost use Rattle.file.specs.Chains.{fileBlocks};
 ghost use Rattle.directory.specs.LookUp.{entryOfFile};
 ghost use Rattle.directory.specs.Search.{searchIn, Inside, FileOpen};
 
+// The lesser of two numbers.
+fn least(a: u32, b: u32) -> u32
+    ensures { λ r. ⌜ r ≡ min a b ⌝ }
+{
+    if a < b { a } else { b }
+}
+
 // One block, by its LBN.
 fn search_block(image: &[u8], lbn: u32, from: u32, to: u32, w: Wanted) -> u32
     requires { ⌜ (512 * lbn + 512 ≤ length (now image)) × (from < 32) × (from ≤ to) ⌝ }
     ensures { λ r. ⌜ (r ≡ searchIn (now (image .entry)) (lbn ∷ []) w from to) × (from ≤ r) × (r ≤ to) ⌝ }
 {
     let b = block(image, lbn);
-    if to < 32 {
-        return first_in_block(b, from, to, w);
-    }
-    first_in_block(b, from, 32, w)
+    first_in_block(b, from, least(to, 32), w)
 }
 
 // A run of blocks, as one retrieval pointer covers it.

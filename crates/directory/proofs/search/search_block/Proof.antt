@@ -18,22 +18,10 @@ first-in-block-requires c κs =
 returns : tie.Need-returns
 returns c =
     let a = c .before .before .before .before .args in
-    let e : min (a .to) 32 ≡ a .to = omega arith in
+    let e : c .before .least .result ≡ min (a .to) 32 = omega arith in
     search-range (now (a .image)) (a .lbn ∷ []) (a .w) (a .from) (a .to) (omega arith) _
-    (rw (search-one (now (a .image)) (a .lbn) (a .w) (a .from) (a .to), e, ← c .before .before .block .ensures) (c .first-in-block .ensures))
-
-first-in-block-requires-2 : tie.Need-first-in-block-requires-2
-first-in-block-requires-2 c κs =
-    let a = c .before .before .before .args in
-    (rw (c .before .block .ensures) (block-length (now (a .image)) (a .lbn) (omega arith)), search needs, search needs)
-
-returns-2 : tie.Need-returns-2
-returns-2 c =
-    let a = c .before .before .before .before .args in
-    let e : min (a .to) 32 ≡ 32 = omega arith in
-    search-range (now (a .image)) (a .lbn ∷ []) (a .w) (a .from) (a .to) (omega arith) _
-    (rw (search-one (now (a .image)) (a .lbn) (a .w) (a .from) (a .to), e, ← c .before .before .block .ensures) (c .first-in-block2 .ensures))
+    (rw (search-one (now (a .image)) (a .lbn) (a .w) (a .from) (a .to), ← c .before .before .block .ensures, ← e) (c .first-in-block .ensures))
 
 pub search-block-spec : {M : Type 1} → statement M
 search-block-spec =
-    tie.close (tie.spec (search needs) first-in-block-requires returns first-in-block-requires-2 returns-2)
+    tie.close (tie.spec (search needs) (search needs) first-in-block-requires returns)
