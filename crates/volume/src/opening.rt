@@ -5,6 +5,7 @@ use crate::home::h_ibsz;
 use crate::home::home_index;
 use crate::home::position;
 use crate::volume::Volume;
+use crate::volume::map_blocks;
 use answer::outcome::Outcome;
 use answer::refusal::Refusal;
 use answer::types::Lbn;
@@ -231,7 +232,7 @@ fn is_stored(image: &[u8], h: &[u8], blocks: u32) -> bool
     if !alone {
         return false;
     }
-    let q = (blocks + 4095) / 4096;
+    let q = map_blocks(blocks);
     let mapped = is_storage_mapped(h, q);
     if !mapped {
         return false;

@@ -7,7 +7,8 @@ use image::bits::bit_at;
 use image::blocks::block;
 use image::blocks::region;
 ghost use mathlib.Core.Path.{_≡_};
-ghost use Rattle.volume.specs.Volume.{slotOf, inUse};
+ghost use Prim.Native.Nat.{_≤_};
+ghost use Rattle.volume.specs.Volume.{slotOf, inUse, mapBlocks};
 ghost use Rattle.volume.specs.Opening.{Open};
 
 // What calls on an opened volume need to know of it.
@@ -30,6 +31,13 @@ pub struct Volume {
 pub enum Slot {
     At(Lbn),
     Missing,
+}
+
+// How many blocks of bits the storage map of a volume of so many blocks has.
+pub fn map_blocks(blocks: u32) -> u32
+    ensures { λ r. ⌜ (r ≡ mapBlocks blocks) × (r ≤ 1048576) ⌝ }
+{
+    (((blocks as u64) + 4095) / 4096) as u32
 }
 
 // Whether a file number is in use.

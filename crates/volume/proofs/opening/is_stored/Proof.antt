@@ -7,7 +7,6 @@ use denote.Ref.{now}
 use borrow.Author.Tests.{not-true, not-false}
 use Rattle.header.specs.Pointers.{Fits}
 use Rattle.header.proofs.WholeLaws.{whole-fits}
-use Rattle.volume.specs.Volume.{mapBlocks}
 use Rattle.volume.proofs.VolumeLaws.{alone-gives}
 use Rattle.volume.proofs.opening.is_stored.Statement.{statement}
 use Rattle.volume.proofs.opening.is_stored.Tie as tie
@@ -25,27 +24,25 @@ returns c =
     rw (← r .is-alone .ensures, not-true (r .is-alone .result) (c .if1 .taken))
 
 is-storage-mapped-requires : tie.Need-is-storage-mapped-requires
-is-storage-mapped-requires c κs = (fits c, omega arith)
+is-storage-mapped-requires c κs = (fits (c .before), omega arith)
 
 returns-2 : tie.Need-returns-2
-unfolding mapBlocks
 returns-2 c =
     let m = c .before in
-    rw (← m .is-storage-mapped .ensures, not-true (m .is-storage-mapped .result) (c .if2 .taken), and-false)
+    rw (← m .before .map-blocks .ensures .0, ← m .is-storage-mapped .ensures, not-true (m .is-storage-mapped .result) (c .if2 .taken), and-false)
 
 lbn-at-requires : tie.Need-lbn-at-requires
-lbn-at-requires c κs = fits (c .before .before)
+lbn-at-requires c κs = fits (c .before .before .before)
 
 returns-3 : tie.Need-returns-3
-unfolding mapBlocks
 returns-3 c =
     let l = c .before .before in
     let m = l .before .before in
-    let r = m .before .before in
-    rw (← r .is-alone .ensures, not-false (r .is-alone .result) (m .before .if1 .left), ← m .is-storage-mapped .ensures, not-false (m .is-storage-mapped .result) (l .before .if2 .left), ← l .lbn-at .ensures, ← c .before .block .ensures, ← c .byte-or-zero .ensures)
+    let e = m .before .before in
+    let r = e .before in
+    rw (← r .is-alone .ensures, not-false (r .is-alone .result) (e .if1 .left), ← m .before .map-blocks .ensures .0, ← m .is-storage-mapped .ensures, not-false (m .is-storage-mapped .result) (l .before .if2 .left), ← l .lbn-at .ensures, ← c .before .block .ensures, ← c .byte-or-zero .ensures)
 
 pub is-stored-spec : {M : Type 1} → statement M
 is-stored-spec =
     tie.close
-    (tie.spec (search needs) returns (search needs) is-storage-mapped-requires returns-2 lbn-at-requires (search needs) (search needs) (search needs)
-    returns-3)
+    (tie.spec (search needs) returns (search needs) is-storage-mapped-requires returns-2 lbn-at-requires (search needs) (search needs) (search needs) returns-3)
