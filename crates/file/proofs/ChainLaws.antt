@@ -87,6 +87,10 @@ walk-start image n first = record {
   blocks = rw (first .2);
 }
 
+-- The same walk, its number of blocks written otherwise.
+pub walk-same : (image : List ℕ) (n : ℕ) (h : List ℕ) (d e : ℕ) → Walk image n h d → d ≡ e → Walk image n h e
+walk-same image n h d e w q = subst (Walk image n h) q w
+
 module _ (image : List ℕ) (n : ℕ) (h : List ℕ) (d : ℕ) (w : Walk image n h d) where
   -- What is left of the chain has the header at hand, so at least one.
   some : 256 - segment h ≡ 255 - segment h + 1

@@ -4,9 +4,9 @@ use mathlib.Core.Bool.{Bool, true, cond, _&&_, _||_}
 use mathlib.Core.List.{List, [], _∷_, _++_}
 use Prim.Native.Nat.{ℕ, zero, suc, _+_}
 use lib.Dec.{eqb}
+use lib.ListN.{length}
 use Rattle.header.specs.Fields.{hFseq, segment, mEfnu, mEfsq}
 use Rattle.header.specs.Pointers.{blocksOf}
-use lib.ListN.{length}
 use Rattle.volume.specs.declared.volume.Slot.{Slot}
 use Rattle.volume.specs.declared.volume.Slot.the-variants as slots
 use Rattle.volume.specs.Volume.{slot, header, faultOf, isNumber}
@@ -15,7 +15,7 @@ use Rattle.file.specs.declared.chains.Link.the-variants as links
 use Rattle.file.specs.declared.chains.Chain.{Chain}
 use Rattle.file.specs.declared.chains.Chain.the-variants as chains
 
--- The slot of n, if n is in use and has one.
+-- 01, The header: "a number in use with a slot". The slot of n, if n is such a number.
 unfoldable pub slotInUse : List ℕ → ℕ → Slot
 slotInUse image n = cond (isNumber image n) (slots.At (record { 0 = slot image n })) slots.Missing
 
@@ -31,7 +31,7 @@ linksOn image h =
 unfoldable pub goodLink : List ℕ → List ℕ → Bool
 goodLink image h = eqb (mEfnu h) 0 || linksOn image h
 
--- Where the link of header h leads.
+-- 01, The header: "M.EFNU is 0, or names ..". Where the link of header h leads: nowhere, to the header in the slot of M.EFNU, or it is bad.
 unfoldable pub linkFrom : List ℕ → List ℕ → Link
 linkFrom image h = cond (eqb (mEfnu h) 0) links.End (cond (linksOn image h) (links.To (record { 0 = slot image (mEfnu h) })) links.Bad)
 
@@ -63,7 +63,7 @@ unfoldable pub flat : (ℕ → List ℕ) → List ℕ → List ℕ
 flat hdr [] = []
 flat hdr (n ∷ ns) = blocksOf (hdr n) ++ flat hdr ns
 
--- Number n is in use with a slot, and its header is whole and the first of a file.
+-- What finding a file's header asks of its number n. 01, Answer numbers, 7, 8 and 10: in use with a slot, whole, segment 0.
 abbrev pub IsFirst : List ℕ → ℕ → Type 0
 IsFirst image n = (isNumber image n ≡ true) × (faultOf image n ≡ 0) × (segment (header image n) ≡ 0)
 
@@ -72,6 +72,7 @@ IsFirst image n = (isNumber image n ≡ true) × (faultOf image n ≡ 0) × (seg
 unfoldable pub fileBlocks : List ℕ → ℕ → List ℕ
 fileBlocks image n = flat (header image) (chainOf image n)
 
--- What a walk over the chain of the file whose first header has number n comes to.
+-- 01, Answer numbers: "12 CHAIN | a bad link", and DONE has as value the "block count (open file)". What the chain of the file whose first header
+-- has number n comes to.
 unfoldable pub chainBlocks : List ℕ → ℕ → Chain
 chainBlocks image n = cond (goodChain image n) (chains.Good (length (fileBlocks image n))) chains.Bad

@@ -1,7 +1,7 @@
 -- Opening a file by its ID: RELVOL, NUMBER, HEADER, SEQUENCE, SEGMENT; LOCKED; CHAIN, in this order.
+use mathlib.Core.Path.{_≡_}
 use mathlib.Core.Bool.{Bool, not, _||_}
 use mathlib.Core.List.{List}
-use mathlib.Core.Path.{_≡_}
 use Prim.Native.Nat.{ℕ, _/_, _%_, _≤_}
 use lib.Dec.{eqb}
 use lib.ListN.{length}
@@ -48,8 +48,8 @@ chained image id = unless (goodChain image (id .number)) refusal.Chain
 unfoldable pub openFile : List ℕ → FileId → Outcome
 openFile image id = openVolume image then find image id then access image id then chained image id
 
--- What an opened file tells the calls that go on from there: the outcome, and where that is passed the volume and how many blocks the file has.
--- They are never more than 256 headers of 127 pointers, 256 blocks each, can cover.
+-- What the calls that go on from an opened file are told: the outcome, and where that is passed the volume and how many blocks the file has. There
+-- are never more than 256 headers with 127 pointers of 256 blocks can cover: 8,323,072.
 abbrev pub Tells : List ℕ → FileId → Outcome → OpenFile → Type 0
 Tells image id result file =
     (file .outcome ≡ result)

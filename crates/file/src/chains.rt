@@ -27,16 +27,16 @@ ghost use Rattle.file.specs.Chains.{slotInUse, linkFrom, goodChain, IsFi
 
 // Where the link of a header leads.
 pub enum Link {
-    // Nowhere: it is the last of its chain.
+    // Nowhere: the header is the last of its chain.
     End,
-    // To the header at this block.
+    // To the header at this LBN.
     To(Lbn),
     Bad,
 }
 
-// What a walk over a chain comes to.
+// What a chain comes to.
 pub enum Chain {
-    // Each link is good. How many blocks its headers cover.
+    // Each link is good; how many blocks its headers cover.
     Good(u32),
     Bad,
 }
@@ -54,17 +54,21 @@ pub(crate) fn slot_in_use(image: &[u8], v: Volume, n: FileNumber) -> Slot
     }
 }
 
-// Whether header `next` of file number n is what header h links to.
+// Whether `next`, the header of number n, is what header h links to: its sequence, a segment number one higher, and whole.
 fn is_next(h: &[u8], next: &[u8], blocks: u32, n: u32) -> bool
     requires { ⌜ length (now next) ≡ 512 ⌝ }
     ensures { λ r. ⌜ r ≡ (eqb (fault blocks n (now (next .entry))) 0 && eqb (hFseq (now (next .entry))) (mEfsq (now (h .entry))) && eqb (segment (now (next .entry))) (segment (now (h .entry)) + 1)) ⌝ }
 {
-    let unmet = fault(next, blocks, n);
-    let sequence = h_fseq(next);
-    let named = m_efsq(h);
-    let higher = segment(next);
-    let lower = segment(h);
-    (unmet == 0) & (sequence == named) & ((higher as u16) == (lower as u16) + 1)
+    if h_fseq(next) != m_efsq(h) {
+        return false;
+    }
+    if (segment(next) as u16) != (segment(h) as u16) + 1 {
+        return false;
+    }
+    if fault(next, blocks, n) != 0 {
+        return false;
+    }
+    true
 }
 
 // Where the link of header h leads.
@@ -102,7 +106,7 @@ pub fn header_of(image: &[u8], v: Volume, n: FileNumber) -> &[u8]
     }
 }
 
-// A walk over the chain of the file whose first header has a number: whether each link is good, and how many blocks its headers cover.
+// What the chain of the file whose first header has number n comes to, by one walk over its headers.
 pub fn chain_blocks(image: &[u8], v: Volume, n: FileNumber) -> Chain
     requires { ⌜ Open (now image) v × IsFirst (now image) (n .0) ⌝ }
     ensures { λ r. ⌜ r ≡ chainBlocks (now (image .entry)) (n .0) ⌝ }
@@ -126,7 +130,7 @@ pub fn chain_blocks(image: &[u8], v: Volume, n: FileNumber) -> Chain
     }
 }
 
-// The LBN at a place, from 0, of the blocks of the file whose first header has a number, where each link of its chain is good.
+// The LBN of block i, from 0, of the file whose first header has number n, where each link of its chain is good.
 pub fn lbn_at(image: &[u8], v: Volume, n: FileNumber, i: u32) -> Lbn
     requires { ⌜ Open (now image) v × IsFirst (now image) (n .0) × (goodChain (now image) (n .0) ≡ true) × (i < length (fileBlocks (now image) (n .0))) ⌝ }
     ensures { λ r. ⌜ r .0 ≡ getD (fileBlocks (now (image .entry)) (n .0)) i 0 ⌝ }

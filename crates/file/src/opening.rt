@@ -31,10 +31,12 @@ pub enum OpenedFile {
     Refused(Refusal),
 }
 
-// What opening a file comes to, for the calls that go on from there. The volume and the number of blocks are told where it is passed.
+// What opening a file comes to, for the calls that go on from there.
 pub struct OpenFile {
     pub outcome: Outcome,
+    // The volume; it says nothing where the outcome is a refusal.
     pub volume: Volume,
+    // How many blocks the file has.
     pub blocks: u32,
 }
 
@@ -71,9 +73,13 @@ fn find(image: &[u8], v: Volume, id: FileId) -> Outcome
 fn is_locked(h: &[u8]) -> bool
     ensures { λ r. ⌜ r ≡ locked (now (h .entry)) ⌝ }
 {
-    let user = user_flags(h);
-    let system = system_flags(h);
-    (user / 64 % 2 == 1) | (system / 128 % 2 == 1)
+    if user_flags(h) / 64 % 2 == 1 {
+        return true;
+    }
+    if system_flags(h) / 128 % 2 == 1 {
+        return true;
+    }
+    false
 }
 
 // Access to a file whose header was found: LOCKED.
@@ -89,7 +95,7 @@ fn access(image: &[u8], v: Volume, id: FileId) -> Outcome
     }
 }
 
-// A refusal, beside a volume that says nothing.
+// A refusal.
 fn refused(v: Volume, r: Refusal) -> OpenFile
     ensures { λ o. ⌜ (o .outcome ≡ outcome.Refused r) × (o .blocks ≡ 0) ⌝ }
 {

@@ -1,18 +1,18 @@
 -- What an image that opens is known to have.
-use mathlib.Core.Path.{_≡_, ap, _∙_}
+use mathlib.Core.Path.{_≡_, sym, ap, _∙_}
 use mathlib.Core.Bool.{true, _&&_, and-eq-true-iff}
 use mathlib.Core.List.{List}
 use native.Mathlib.Numerals.{add-one}
 use Prim.Native.Nat.{ℕ, zero, suc, _+_, _*_, _-_, _≤_, _<_}
 use native.Mathlib.Decide.{decLt}
 use native.Mathlib.Omega.{arith}
-use borrow.Author.Tests.{le-leb, lt-leb, eqb-true, leb-true, ltb-true}
+use borrow.Author.Tests.{eqb-true, leb-true, ltb-true, eq-eqb, le-leb, lt-leb, lt-ltb}
 use lib.Dec.{eqb, leb}
 use lib.ListN.{length, getD}
 use Rattle.image.specs.Words.{byteAt, Bytes}
 use Rattle.image.specs.Blocks.{block}
 use Rattle.image.specs.First.{below}
-use Rattle.image.proofs.Below.{below-at}
+use Rattle.image.proofs.Below.{below-at, below-all}
 use Rattle.image.proofs.WordLaws.{word-below}
 use Rattle.image.proofs.BlockLaws.{region-length, block-length, block-bytes}
 use Rattle.answer.specs.declared.refusal.Refusal.the-variants as refusal
@@ -29,8 +29,8 @@ use Rattle.volume.specs.Volume.{ibsz, iblb, fmax, indexHeader, index, sl
 use Rattle.volume.specs.declared.volume.Volume.{Volume}
 use Rattle.volume.specs.declared.volume.Slot.{Slot}
 use Rattle.volume.specs.declared.volume.Slot.the-variants.{At, Missing}
-use Rattle.volume.specs.Opening.{sized, homed, indexMapBlocks, geometry, alone, indexLbn, indexAt, indexMapped, indexed, storageMapped, stored, openVolume}
-use Rattle.volume.proofs.OpeningLaws.{three, sized-is, geometry-is, home-inside, passed-first, passed-last, indexLbn-boot, indexLbn-home, indexLbn-row, storage-long, storage-row}
+use Rattle.volume.specs.Opening.{sized, homed, indexMapBlocks, geometry, alone, indexLbn, indexAt, indexMapped, indexed, storageMapped, stored, openVolume, Laid}
+use Rattle.volume.proofs.OpeningLaws.{open-passed, three, sized-is, geometry-is, home-inside, passed-first, passed-last, indexLbn-boot, indexLbn-home, indexLbn-row, storage-long, storage-row}
 
 -- A header that stands alone: whole, of its number and sequence, segment 0, without extension.
 pub record Alone (total n : ℕ) (h : List ℕ) : Type 0 where
@@ -73,6 +73,11 @@ alone-gives total n h t =
       last = eqb-true (mEfnu h) 0 (s .1);
     }
 
+pub alone-holds : (total n : ℕ) (h : List ℕ) → Alone total n h → alone total n h ≡ true
+unfolding alone
+alone-holds total n h a =
+    rw (eq-eqb (fault total n h) 0 (a .whole), eq-eqb (hFseq h) n (a .sequence), eq-eqb (segment h) 0 (a .first), eq-eqb (mEfnu h) 0 (a .last))
+
 pub index-gives : (home iblb m : ℕ) (lbns : List ℕ) → indexMapped home iblb m lbns ≡ true → Index home iblb m lbns
 unfolding indexMapped indexAt
 index-gives home iblb m lbns t =
@@ -85,6 +90,19 @@ index-gives home iblb m lbns t =
       homed = at 1 (omega arith) ∙ indexLbn-home home iblb;
       row = λ i l. at (2 + i) (omega arith) ∙ indexLbn-row home iblb (2 + i) (omega arith) ∙ omega arith;
     }
+
+pub index-holds : (home iblb m : ℕ) (lbns : List ℕ) → Index home iblb m lbns → indexMapped home iblb m lbns ≡ true
+unfolding indexMapped indexAt
+index-holds home iblb m lbns f =
+    rw (le-leb (m + 18) (length lbns) (f .long))
+    (below-all (m + 18) (indexAt home iblb lbns) (λ i l. eq-eqb (getD lbns i 0) (indexLbn home iblb i) (at i l)))
+  where
+    at : (i : ℕ) → i < m + 18 → getD lbns i 0 ≡ indexLbn home iblb i
+    at zero l = f .boot ∙ sym (indexLbn-boot home iblb)
+    at (suc zero) l = f .homed ∙ sym (indexLbn-home home iblb)
+    at (suc (suc i)) l =
+        let e : suc (suc i) ≡ 2 + i = omega arith in
+        rw e (f .row i (omega arith) ∙ omega (arith, indexLbn-row home iblb (2 + i) (omega arith)))
 
 -- Header 1 and header 2 as the tests have them.
 pub indexed-gives : (image : List ℕ) → indexed image ≡ true → Alone (blocks image) 1 (indexHeader image) × Index (home image) (iblb image) (ibsz image) (index image)
@@ -130,11 +148,49 @@ opens image e =
       control = map .2;
     }
 
+-- An image that has all of that opens.
+pub opens-all : (image : List ℕ) → Opens image → openVolume image ≡ Passed
+unfolding sized homed geometry indexed stored
+opens-all image o =
+    let n = blocks image in
+    open-passed image
+    (rw (eq-eqb (length image) (512 * n) (o .size), le-leb 100 n (o .least), le-leb n 1044480 (o .most)))
+    (lt-ltb (homeIndex image) (positions n) (o .found))
+    (rw (le-leb 16 (fmax image) (o .enough), eq-eqb (ibsz image) (indexMapBlocks (fmax image)) (o .maps), le-leb (iblb image + ibsz image + 16) n (o .fits)))
+    (rw (alone-holds n 1 (indexHeader image) (o .index-header)) (index-holds (home image) (iblb image) (ibsz image) (index image) (o .index-file)))
+    (rw (alone-holds n 2 (header image 2) (o .storage-header), o .shape) (eq-eqb (byteAt (block image (getD (blocksOf (header image 2)) 0 0)) 3) (mapBlocks n) (o .control)))
+
 -- The slots of the first sixteen numbers.
 pub index-slot : (image : List ℕ) → Index (home image) (iblb image) (ibsz image) (index image) → (n : ℕ) → 1 ≤ n → n ≤ 16 → slot image n ≡ iblb image + ibsz image + (n - 1)
 unfolding slot
 index-slot image file n l h =
     ap (λ (i : ℕ). getD (index image) i 0) (omega arith) ∙ file .row (ibsz image + (n - 1)) (omega arith) ∙ omega arith
+
+-- What opening reads once the geometry is right.
+module _ (image : List ℕ) (v : Volume) (l : Laid image v) where
+  pub laid-room : sized image ≡ true → geometry image ≡ true → (v .iblb + v .ibsz + 16 ≤ v .blocks) × (v .blocks ≤ 1044480)
+  laid-room s g = (omega (arith, geometry-is image g .2, l .iblb, l .ibsz, l .blocks), omega (arith, sized-is image s .2, l .blocks))
+
+  pub laid-length : sized image ≡ true → geometry image ≡ true → (k : ℕ) → k < v .iblb + v .ibsz + 16 → length (block image k) ≡ 512
+  laid-length s g k h = block-length image k (omega (arith, sized-is image s .0, laid-room s g .0, l .blocks))
+
+  pub laid-header1 : block image (v .iblb + v .ibsz) ≡ indexHeader image
+  unfolding indexHeader
+  laid-header1 = rw (l .iblb, l .ibsz)
+
+  pub laid-indexed : (alone (v .blocks) 1 (indexHeader image) && indexMapped (v .home) (v .iblb) (v .ibsz) (blocksOf (indexHeader image))) ≡ indexed image
+  unfolding indexed index
+  laid-indexed = rw (l .blocks, l .home, l .iblb, l .ibsz)
+
+  pub laid-header2 : indexed image ≡ true → block image (v .iblb + v .ibsz + 1) ≡ header image 2
+  unfolding header
+  laid-header2 t = ap (block image) (omega (arith, l .iblb, l .ibsz, index-slot image (indexed-gives image t .1) 2 (omega arith) (omega arith)))
+
+  pub laid-stored : (alone (v .blocks) 2 (header image 2)
+      && storageMapped (mapBlocks (v .blocks)) (header image 2)
+      && eqb (byteAt (block image (getD (blocksOf (header image 2)) 0 0)) 3) (mapBlocks (v .blocks))) ≡ stored image
+  unfolding stored
+  laid-stored = rw (l .blocks)
 
 module _ {image : List ℕ} (o : Opens image) where
   pub home-below : home image < blocks image
@@ -212,15 +268,7 @@ unfolding fmax hFmax
 fmax-below image bytes = word-below (block image (home image)) (block-bytes image (home image) bytes) 6
 
 -- What calls on an opened volume know of it.
-pub record Says (image : List ℕ) (v : Volume) : Type 0 where
-  pub blocks : v .blocks ≡ blocks image
-  pub home : v .home ≡ home image
-  pub ibsz : v .ibsz ≡ ibsz image
-  pub iblb : v .iblb ≡ iblb image
-  pub fmax : v .fmax ≡ fmax image
-  pub base : v .base ≡ base image
-
-pub says : (image : List ℕ) (v : Volume) → v ≡ volumeOf image → Says image v
+pub says : (image : List ℕ) (v : Volume) → v ≡ volumeOf image → Laid image v
 unfolding volumeOf
 says image v e = record {
   blocks = ap (λ (v : Volume). v .blocks) e;
@@ -228,18 +276,21 @@ says image v e = record {
   ibsz = ap (λ (v : Volume). v .ibsz) e;
   iblb = ap (λ (v : Volume). v .iblb) e;
   fmax = ap (λ (v : Volume). v .fmax) e;
-  base = ap (λ (v : Volume). v .base) e;
 }
 
-pub says-all : (image : List ℕ) (v : Volume) → Says image v → v ≡ volumeOf image
+pub says-base : (image : List ℕ) (v : Volume) → v ≡ volumeOf image → v .base ≡ base image
 unfolding volumeOf
-says-all image v s = λ i. record {
+says-base image v e = ap (λ (v : Volume). v .base) e
+
+pub says-all : (image : List ℕ) (v : Volume) → Laid image v → v .base ≡ base image → v ≡ volumeOf image
+unfolding volumeOf
+says-all image v s e = λ i. record {
   blocks = s .blocks i;
   home = s .home i;
   ibsz = s .ibsz i;
   iblb = s .iblb i;
   fmax = s .fmax i;
-  base = s .base i;
+  base = e i;
 }
 
 -- The slot of a number by its place in the index file.

@@ -90,3 +90,11 @@ volumeAnswer image = openedVolume (openVolume image) (home image)
 -- The image opens, and v is what calls on it need to know.
 abbrev pub Open : List ℕ → Volume → Type 0
 Open image v = (openVolume image ≡ outcome.Passed) × (v ≡ volumeOf image)
+
+-- What v says of the image, but for the storage map.
+pub record Laid (image : List ℕ) (v : Volume) : Type 0 where
+  pub blocks : v .blocks ≡ blocks image
+  pub home : v .home ≡ home image
+  pub ibsz : v .ibsz ≡ ibsz image
+  pub iblb : v .iblb ≡ iblb image
+  pub fmax : v .fmax ≡ fmax image

@@ -33,7 +33,7 @@ ghost use Rattle.image.specs.First.{below};
 ghost use Rattle.header.specs.Pointers.{Fits, blocksOf};
 ghost use Rattle.volume.specs.Home.{hIbsz, hIblb, hFmax, blocks, home};
 ghost use Rattle.volume.specs.Volume.{mapBlocks, volumeOf};
-ghost use Rattle.volume.specs.Opening.{sized, homed, indexMapBlocks, indexLbn, alone, indexMapped, storageMapped, openVolume, volumeAnswer};
+ghost use Rattle.volume.specs.Opening.{sized, homed, indexMapBlocks, geometry, indexLbn, alone, indexMapped, storageMapped, openVolume, volumeAnswer, Laid};
 
 // The answer of opening a volume.
 pub enum Opened {
@@ -156,7 +156,7 @@ fn least(a: u32, b: u32) -> u32
 
 // Whether the first m + 18 blocks of a header are those of the index file. Its pointers are walked in order.
 fn is_index_mapped(h: &[u8], home: u32, iblb: u32, m: u32) -> bool
-    requires { ⌜ Fits (now h) × (iblb < 2 ^ 31) × (m ≤ 65535) ⌝ }
+    requires { ⌜ Fits (now h) × (iblb < 2 ^ 31) × (m < 2 ^ 30) ⌝ }
     ensures { λ r. ⌜ r ≡ indexMapped home iblb m (blocksOf (now (h .entry))) ⌝ }
 {
     let at = first_pointer(h);
@@ -210,7 +210,7 @@ fn lbn_at(h: &[u8], i: u32) -> u32
 
 // Whether header 1 is the index file's, on a volume of so many blocks.
 fn is_indexed(h: &[u8], blocks: u32, home: u32, iblb: u32, m: u32) -> bool
-    requires { ⌜ (length (now h) ≡ 512) × (iblb < 2 ^ 31) × (m ≤ 65535) ⌝ }
+    requires { ⌜ (length (now h) ≡ 512) × (iblb < 2 ^ 31) × (m < 2 ^ 30) ⌝ }
     ensures { λ r. ⌜ r ≡ (alone blocks 1 (now (h .entry)) && indexMapped home iblb m (blocksOf (now (h .entry)))) ⌝ }
 {
     let alone = is_alone(h, blocks, 1);
@@ -241,6 +241,37 @@ fn is_stored(image: &[u8], h: &[u8], blocks: u32) -> bool
     (control as u32) == q
 }
 
+// Opens a volume of which all but the storage map is known.
+fn open_laid_out(image: &[u8], v: Volume) -> OpenVolume
+    requires { ⌜ (sized (now image) ≡ true) × (homed (now image) ≡ true) × (geometry (now image) ≡ true) × Laid (now image) v ⌝ }
+    ensures { λ r. ⌜ (r .outcome ≡ openVolume (now (image .entry)))
+        × (openVolume (now (image .entry)) ≡ outcome.Passed → r .volume ≡ volumeOf (now (image .entry))) ⌝ }
+{
+    let h1 = block(image, v.iblb + v.ibsz);
+    let indexed = is_indexed(h1, v.blocks, v.home, v.iblb, v.ibsz);
+    if !indexed {
+        return refused(Refusal::Index);
+    }
+    let h2 = block(image, v.iblb + v.ibsz + 1);
+    let stored = is_stored(image, h2, v.blocks);
+    if !stored {
+        return refused(Refusal::Storage);
+    }
+    let base = lbn_at(h2, 1);
+    let volume = Volume {
+        blocks: v.blocks,
+        home: v.home,
+        ibsz: v.ibsz,
+        iblb: v.iblb,
+        fmax: v.fmax,
+        base,
+    };
+    OpenVolume {
+        outcome: Outcome::Passed,
+        volume,
+    }
+}
+
 // Opens a volume of n blocks whose home lies at a known LBN.
 fn open_at(image: &[u8], n: u32, at: u32) -> OpenVolume
     requires { ⌜ (sized (now image) ≡ true) × (homed (now image) ≡ true) × (n ≡ blocks (now image)) × (at ≡ home (now image)) ⌝ }
@@ -255,27 +286,17 @@ fn open_at(image: &[u8], n: u32, at: u32) -> OpenVolume
     let ibsz = h_ibsz(b) as u32;
     let iblb = h_iblb(b);
     let fmax = h_fmax(b) as u32;
-    let indexed = is_indexed(block(image, iblb + ibsz), n, at, iblb, ibsz);
-    if !indexed {
-        return refused(Refusal::Index);
-    }
-    let h = block(image, iblb + ibsz + 1);
-    let stored = is_stored(image, h, n);
-    if !stored {
-        return refused(Refusal::Storage);
-    }
-    let base = lbn_at(h, 1);
-    OpenVolume {
-        outcome: Outcome::Passed,
-        volume: Volume {
+    open_laid_out(
+        image,
+        Volume {
             blocks: n,
             home: at,
             ibsz,
             iblb,
             fmax,
-            base,
+            base: 0,
         },
-    }
+    )
 }
 
 // Opens a volume.

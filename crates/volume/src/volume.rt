@@ -41,11 +41,12 @@ pub fn is_in_use(image: &[u8], v: Volume, n: FileNumber) -> bool
     if number < 1 {
         return false;
     }
-    if v.fmax < number {
+    let bit = number - 1;
+    if v.fmax <= bit {
         return false;
     }
     let map = region(image, v.iblb, v.ibsz);
-    bit_at(map, (number - 1) as usize) == 1
+    bit_at(map, bit as usize) == 1
 }
 
 // The slot of a file number; none past the blocks of the index file.

@@ -1,8 +1,8 @@
 //! Measures the exported calls against plain Rust that does the same work on the same images.
 //!
 //! Both sides answer the same twelve words, which is checked. They take turns round by round, so
-//! that what else the machine does falls on both. A line of the table gives the median time of a
-//! call on each side, and the ratio library/Rust: below 1 the library is faster.
+//! that what disturbs one disturbs the other. A line of the table gives the median time of a call
+//! on each side, and the ratio library/Rust: below 1 the library is faster.
 //!
 //! The Rust side is built as the default release profile builds it, without the overflow checks
 //! that the tests have, and the library's calls go through the checking wrappers that the tests

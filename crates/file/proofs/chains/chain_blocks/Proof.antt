@@ -9,7 +9,7 @@ use Rattle.header.specs.Fields.{segment, mEfnu}
 use Rattle.file.proofs.NumberLaws.{number-fits, segment-most}
 use Rattle.file.proofs.LinkLaws.{LeadsTo, good-links, link-leads}
 use Rattle.file.proofs.SizeLaws.{file-most}
-use Rattle.file.proofs.ChainLaws.{Walk, walk-start, walk-inside, walk-bad, walk-end-good, walk-end-length, walk-next, blocks-good, blocks-bad}
+use Rattle.file.proofs.ChainLaws.{Walk, walk-start, walk-same, walk-inside, walk-bad, walk-end-good, walk-end-length, walk-next, blocks-good, blocks-bad}
 use Rattle.file.proofs.chains.chain_blocks.Statement.{statement}
 use Rattle.file.proofs.chains.chain_blocks.Tie as tie
 
@@ -50,7 +50,7 @@ header-of-requires : tie.Need-header-of-requires Inv-loop μ-loop
 header-of-requires c κs = (c .before .pre .0, c .before .pre .1 .0)
 
 loop-holds : tie.Need-loop-holds Inv-loop μ-loop
-loop-holds c n w = w
+loop-holds c n w = walk-same _ _ _ _ _ w (omega arith)
 
 block-count-requires : tie.Need-block-count-requires Inv-loop μ-loop
 block-count-requires c κs =
@@ -87,8 +87,8 @@ loop-again c n w =
     let l = b .before in
     let k = l .before .before in
     let g = leads (c .before .before) in
-    rw (c .block .ensures ∙ g .next, b .block-count .ensures .0)
-    (walk-next (now (k .before .args .image)) n (now (l .loop .h)) (l .loop .count) (l .loop .inv n w) (bytes k) (g .some) (g .good))
+    rw (c .block .ensures ∙ g .next)
+    (walk-same _ _ _ _ _ (walk-next (now (k .before .args .image)) n (now (l .loop .h)) (l .loop .count) (l .loop .inv n w) (bytes k) (g .some) (g .good)) (omega (arith, b .block-count .ensures)))
 
 returns-2 : tie.Need-returns-2 Inv-loop μ-loop
 returns-2 c =

@@ -1,6 +1,7 @@
 -- The slot that was found, and the tests of the header in it, are those of the definition.
 use borrow.Author.Needs.{needs}
 use mathlib.Core.Path.{_≡_, sym, ap, _∙_}
+use native.Mathlib.Omega.{arith}
 use denote.Ref.{now}
 use Rattle.image.specs.Blocks.{block}
 use Rattle.header.specs.Fields.{mEfnu}
@@ -12,6 +13,9 @@ use Rattle.file.proofs.NumberLaws.{number-length}
 use Rattle.file.proofs.LinkLaws.{Found, link-is-end, link-is-to, link-is-bad, links-number, links-none, slot-found}
 use Rattle.file.proofs.chains.follow.Statement.{statement}
 use Rattle.file.proofs.chains.follow.Tie as tie
+
+some : (c : tie.Else1) → mEfnu (now (c .before .before .before .before .args .h)) ≡ 0 → ⊥
+some c = omega (arith, c .before .m-efnu .ensures)
 
 -- M.EFNU names a number in use, and the block is the header in its slot.
 found : (c : tie.After-place)
@@ -29,7 +33,7 @@ named : (c : tie.After-block)
 unfolding header
 named c =
     let p = c .before .before in
-    c .block .ensures ∙ ap (block (now (p .before .before .before .before .before .before .before .args .image))) (found p .1)
+    c .block .ensures ∙ ap (block (now (p .before .before .before .before .before .before .before .args .image))) (omega (arith, found p))
 
 tested : (c : tie.After-is-next)
     → let a = c .before .before .before .before .before .before .before .before .before .before .args in
@@ -47,7 +51,7 @@ slot-in-use-requires c κs = c .before .before .before .before .pre
 returns : tie.Need-returns
 returns c =
     let a = c .before .before .before .before .args in
-    sym (link-is-end (now (a .image)) (now (a .h)) (sym (c .before .m-efnu .ensures) ∙ c .if1 .taken))
+    sym (link-is-end (now (a .image)) (now (a .h)) (omega (arith, c .before .m-efnu .ensures)))
 
 is-next-requires : tie.Need-is-next-requires
 is-next-requires c κs =
@@ -59,13 +63,13 @@ returns-2 c =
     let p = c .before .before .before .before in
     let l = p .before .before .before in
     let a = l .before .before .before .before .args in
-    sym (link-is-to (now (a .image)) (now (a .h)) (λ z. l .if1 .left (l .before .m-efnu .ensures ∙ z)) (sym (tested (c .before)) ∙ c .if2 .taken) (p .place .given .0 .0) (found p .1))
+    sym (link-is-to (now (a .image)) (now (a .h)) (some l) (sym (tested (c .before)) ∙ c .if2 .taken) (p .place .given .0 .0) (found p .1))
 
 returns-3 : tie.Need-returns-3
 returns-3 c =
     let l = c .before .before .before .before .before .before .before in
     let a = l .before .before .before .before .args in
-    sym (link-is-bad (now (a .image)) (now (a .h)) (λ z. l .if1 .left (l .before .m-efnu .ensures ∙ z)) (sym (tested (c .before)) ∙ c .if2 .left))
+    sym (link-is-bad (now (a .image)) (now (a .h)) (some l) (sym (tested (c .before)) ∙ c .if2 .left))
 
 returns-4 : tie.Need-returns-4
 returns-4 c =
@@ -73,7 +77,7 @@ returns-4 c =
     let l = s .before in
     let a = l .before .before .before .before .args in
     let none = slot-found (now (a .image)) (mEfnu (now (a .h))) _ (ap (slotInUse (now (a .image))) (sym (l .before .m-efnu .ensures)) ∙ sym (s .slot-in-use .ensures) ∙ c .enum-told .given .1) in
-    sym (link-is-bad (now (a .image)) (now (a .h)) (λ z. l .if1 .left (l .before .m-efnu .ensures ∙ z)) (links-none (now (a .image)) (now (a .h)) none))
+    sym (link-is-bad (now (a .image)) (now (a .h)) (some l) (links-none (now (a .image)) (now (a .h)) none))
 
 pub follow-spec : {M : Type 1} → statement M
 follow-spec =

@@ -1,6 +1,7 @@
 -- A number in use with a slot has the slot that `slot_of` finds.
 use borrow.Author.Needs.{needs}
 use mathlib.Core.Path.{sym, ap, _∙_}
+use native.Mathlib.Omega.{arith}
 use denote.Ref.{now}
 use Rattle.image.specs.Blocks.{block}
 use Rattle.volume.specs.Volume.{header}
@@ -17,7 +18,8 @@ returns c =
     let p = c .before .before in
     let s = p .before .before in
     let start = s .before .before in
-    c .block .ensures ∙ ap (block (now (start .args .image))) (number-slot (now (start .args .image)) (start .args .n .0) (start .pre .1) _ (sym (s .slot-of .ensures) ∙ p .place .given .1))
+    let image = now (start .args .image) in
+    c .block .ensures ∙ ap (block image) (omega (arith, number-slot image (start .args .n .0) (start .pre .1) _ (sym (s .slot-of .ensures) ∙ p .place .given .1)))
 
 returns-2 : tie.Need-returns-2
 returns-2 c =

@@ -2,10 +2,9 @@
 use mathlib.Core.Path.{_≡_, sym, ap, _∙_}
 use mathlib.Core.Bool.{true}
 use Prim.Native.Nat.{ℕ, _+_, _-_, _≤_}
-use native.Mathlib.Nat.{sub-self}
 use native.Mathlib.Omega.{arith}
 use denote.Ref.{now}
-use lib.ListN.{length, getD}
+use lib.ListN.{getD}
 use borrow.Author.Needs.{needs}
 use Rattle.image.specs.Words.{Bytes}
 use Rattle.header.specs.Fields.{segment, mEfnu}
@@ -16,7 +15,7 @@ use Rattle.file.specs.Chains.{goodLink, fileBlocks}
 use Rattle.file.proofs.NumberLaws.{number-fits, segment-most}
 use Rattle.file.proofs.PlaceLaws.{PlacedAt, placed}
 use Rattle.file.proofs.LinkLaws.{Linked, good-links}
-use Rattle.file.proofs.ChainLaws.{Walk, walk-start, walk-here, walk-good, walk-more, walk-next}
+use Rattle.file.proofs.ChainLaws.{Walk, walk-start, walk-same, walk-here, walk-good, walk-more, walk-next}
 use Rattle.file.proofs.chains.lbn_at.Statement.{statement}
 use Rattle.file.proofs.chains.lbn_at.Tie as tie
 
@@ -61,7 +60,7 @@ header-of-requires : tie.Need-header-of-requires Inv-loop μ-loop
 header-of-requires c κs = (c .before .pre .0, c .before .pre .1 .0)
 
 loop-holds : tie.Need-loop-holds Inv-loop μ-loop
-loop-holds c = (omega arith, λ n w. rw (sub-self (c .before .before .args .i)) w)
+loop-holds c = (omega arith, λ n w. walk-same _ _ _ _ _ w (omega arith))
 
 place-of-requires : tie.Need-place-of-requires Inv-loop μ-loop
 place-of-requires c κs =
@@ -76,9 +75,12 @@ returns c =
     let a = l .before .before .before .args in
     let in-place = placed (blocksOf (now (l .loop .h))) (l .loop .left) _ (sym (p .before .before .place-of .ensures) ∙ p .place .given .1) in
     let e : a .i - l .loop .left + l .loop .left ≡ a .i = omega (arith, l .loop .inv .0) in
-    in-place .1
-    ∙ sym (walk-here (now (a .image)) (a .n .0) (now (l .loop .h)) (a .i - l .loop .left) (at l) (l .loop .left) (in-place .0))
-    ∙ ap (λ (k : ℕ). getD (fileBlocks (now (a .image)) (a .n .0)) k 0) e
+    omega (
+      arith,
+      in-place .1,
+      walk-here (now (a .image)) (a .n .0) (now (l .loop .h)) (a .i - l .loop .left) (at l) (l .loop .left) (in-place .0),
+      ap (λ (k : ℕ). getD (fileBlocks (now (a .image)) (a .n .0)) k 0) e,
+    )
 
 header-of-requires-2 : tie.Need-header-of-requires-2 Inv-loop μ-loop
 header-of-requires-2 c κs =
@@ -106,8 +108,12 @@ loop-again c =
     let k = l .before .before in
     let h = now (l .loop .h) in
     let i = k .before .args .i in
-    let e : i - p .place2 .given .0 .0 ≡ i - l .loop .left + length (blocksOf h) = omega (arith, past p, l .loop .inv .0) in
-    (omega (arith, past p, l .loop .inv .0), λ n w. rw (next c, e) (walk-next (now (k .before .args .image)) n h (i - l .loop .left) (l .loop .inv .1 n w) (bytes k) (some p) (good p)))
+    let e = l .loop .inv .0 in (
+      omega (arith, past p, e),
+      λ n w.
+          rw (next c)
+          (walk-same _ _ _ _ _ (walk-next (now (k .before .args .image)) n h (i - l .loop .left) (l .loop .inv .1 n w) (bytes k) (some p) (good p)) (omega (arith, past p, e))),
+    )
 
 pub lbn-at-spec : {M : Type 1} → statement M
 lbn-at-spec =

@@ -1,6 +1,9 @@
 -- The block is the one at the LBN that the VBN maps to.
 use borrow.Author.Needs.{needs}
-use Rattle.file.specs.Mapping.{blockOf}
+use mathlib.Core.Path.{_≡_, sym, _∙_}
+use denote.Ref.{now}
+use Rattle.file.specs.declared.mapping.Mapped.the-variants.{Done}
+use Rattle.file.specs.Mapping.{mapAnswer, blockOf}
 use Rattle.file.proofs.mapping.block.Statement.{statement}
 use Rattle.file.proofs.mapping.block.Tie as tie
 
@@ -8,7 +11,10 @@ returns : tie.Need-returns
 unfolding blockOf
 returns c =
     let p = c .before .before in
-    rw (← p .before .before .map .ensures, p .place .given .1) (c .block .ensures)
+    let m = p .before .before in
+    let a = m .before .before .args in
+    let e : mapAnswer (now (a .image)) (a .id) (a .vbn .0) ≡ Done (p .place .given .0 .0) = sym (m .map .ensures) ∙ p .place .given .1 in
+    rw e (c .block .ensures)
 
 returns-2 : tie.Need-returns-2
 unfolding blockOf

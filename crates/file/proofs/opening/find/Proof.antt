@@ -1,6 +1,7 @@
 -- The slot that was found, and the tests of the header in it, are those of the definition.
 use borrow.Author.Needs.{needs}
 use mathlib.Core.Path.{_≡_, sym, ap, _∙_}
+use native.Mathlib.Omega.{arith}
 use denote.Ref.{now}
 use Rattle.image.specs.Blocks.{block}
 use Rattle.header.specs.Fields.{hFseq, segment}
@@ -24,7 +25,7 @@ named : (c : tie.After-block) → let a = c .before .before .before .before .bef
 unfolding header
 named c =
     let p = c .before .before in
-    c .block .ensures ∙ ap (block (now (p .before .before .before .before .before .before .before .args .image))) (found p .1)
+    c .block .ensures ∙ ap (block (now (p .before .before .before .before .before .before .before .args .image))) (omega (arith, found p))
 
 tested : (c : tie.After-fault) → let a = c .before .before .before .before .before .before .before .before .before .before .args in c .fault .result ≡ faultOf (now (a .image)) (a .id .number)
 unfolding faultOf
@@ -32,13 +33,24 @@ tested c =
     let start = c .before .before .before .before .before .before .before .before .before .before in
     rw (← named (c .before), ← says (now (start .args .image)) (start .args .v) (start .pre .1) .blocks) (c .fault .ensures)
 
+relvol : (c : tie.Else1) → c .before .before .before .args .id .volume ≡ 0
+relvol c = omega arith
+
+whole : (c : tie.Else2) → let a = c .before .before .before .before .before .before .before .before .before .before .before .args in faultOf (now (a .image)) (a .id .number) ≡ 0
+whole c = omega (arith, tested (c .before))
+
+read : (c : tie.After-h-fseq)
+    → let a = c .before .before .before .before .before .before .before .before .before .before .before .before .args in
+    c .h-fseq .result ≡ hFseq (header (now (a .image)) (a .id .number))
+read c = c .h-fseq .ensures ∙ ap hFseq (named (c .before .before .before))
+
 slot-in-use-requires : tie.Need-slot-in-use-requires
 slot-in-use-requires c κs = c .before .before .before .before .pre
 
 returns : tie.Need-returns
 returns c =
     let a = c .before .before .before .args in
-    sym (find-relvol (now (a .image)) (a .id) (c .if1 .taken))
+    sym (find-relvol (now (a .image)) (a .id) (omega arith))
 
 fault-requires : tie.Need-fault-requires
 fault-requires c κs =
@@ -51,51 +63,46 @@ returns-2 c =
     let p = f .before .before .before in
     let e = p .before .before .before .before in
     let a = e .before .before .before .args in
-    rw (tested f) (sym (find-header (now (a .image)) (a .id) (e .if1 .left) (found p .0) (λ z. c .if2 .taken (tested f ∙ z))))
+    rw (tested f) (sym (find-header (now (a .image)) (a .id) (relvol e) (found p .0) (omega (arith, tested f))))
 
 returns-3 : tie.Need-returns-3
 returns-3 c =
     let q = c .before .before in
-    let f = q .before .before in
-    let p = f .before .before .before in
+    let p = q .before .before .before .before .before in
     let e = p .before .before .before .before in
     let a = e .before .before .before .args in
-    sym
-    (find-sequence (now (a .image)) (a .id) (e .if1 .left) (found p .0) (sym (tested f) ∙ q .before .if2 .left)
-    (λ z. c .if3 .taken (q .h-fseq .ensures ∙ ap hFseq (named (f .before)) ∙ z)))
+    sym (find-sequence (now (a .image)) (a .id) (relvol e) (found p .0) (whole (q .before)) (omega (arith, read q)))
 
 returns-4 : tie.Need-returns-4
 returns-4 c =
     let t = c .before .before in
     let q = t .before .before in
-    let f = q .before .before in
-    let p = f .before .before .before in
+    let b = q .before .before .before in
+    let p = b .before .before in
     let e = p .before .before .before .before in
     let a = e .before .before .before .args in
-    let n = named (f .before) in
     sym
-    (find-segment (now (a .image)) (a .id) (e .if1 .left) (found p .0) (sym (tested f) ∙ q .before .if2 .left)
-    (sym (ap hFseq n) ∙ sym (q .h-fseq .ensures) ∙ t .if3 .left) (λ z. c .if4 .taken (c .before .segment .ensures ∙ ap segment n ∙ z)))
+    (find-segment (now (a .image)) (a .id) (relvol e) (found p .0) (whole (q .before)) (omega (arith, t .if3 .left, read q))
+    (omega (arith, c .before .segment .ensures, ap segment (named b))))
 
 returns-5 : tie.Need-returns-5
 returns-5 c =
     let t = c .before .before in
     let q = t .before .before in
-    let f = q .before .before in
-    let p = f .before .before .before in
+    let b = q .before .before .before in
+    let p = b .before .before in
     let e = p .before .before .before .before in
     let a = e .before .before .before .args in
-    let n = named (f .before) in
     sym
-    (find-passed (now (a .image)) (a .id) (e .if1 .left) (found p .0) (sym (tested f) ∙ q .before .if2 .left)
-    (sym (ap hFseq n) ∙ sym (q .h-fseq .ensures) ∙ t .if3 .left) (sym (ap segment n) ∙ sym (c .before .segment .ensures) ∙ c .if4 .left))
+    (find-passed (now (a .image)) (a .id) (relvol e) (found p .0) (whole (q .before)) (omega (arith, t .if3 .left, read q))
+    (omega (arith, c .before .segment .ensures, ap segment (named b))))
 
 returns-6 : tie.Need-returns-6
 returns-6 c =
     let s = c .before .before in
     let e = s .before .before in
     let a = e .before .before .before .args in
-    sym (find-number (now (a .image)) (a .id) (e .if1 .left) (slot-found (now (a .image)) (a .id .number) _ (sym (s .slot-in-use .ensures) ∙ c .enum-told .given .1)))
+    sym (find-number (now (a .image)) (a .id) (relvol e) (slot-found (now (a .image)) (a .id .number) _ (sym (s .slot-in-use .ensures) ∙ c .enum-told .given .1)))
 
 pub find-spec : {M : Type 1} → statement M
 find-spec =

@@ -22,7 +22,7 @@ returns c =
     let t = c .before in
     let a = t .before .before .before .before .before .args in
     let image = now (a .image) in
-    rw (then-passed (openVolume image) (find image (a .id) then access image (a .id) then chained image (a .id)) (passed t)) (c .open-on .ensures)
+    rw (then-passed (openVolume image) _ (passed t)) (c .open-on .ensures)
 
 returns-2 : tie.Need-returns-2
 unfolding openFile

@@ -1,6 +1,10 @@
 -- The answer is the outcome, with the number of blocks.
 use borrow.Author.Needs.{needs}
-use mathlib.Core.Path.{sym, _∙_}
+use mathlib.Core.Path.{sym, ap, ap₂, _∙_}
+use denote.Ref.{now}
+use lib.ListN.{length}
+use Rattle.answer.specs.declared.outcome.Outcome.{Outcome}
+use Rattle.file.specs.Chains.{fileBlocks}
 use Rattle.file.specs.Opening.{openedFile, openAnswer}
 use Rattle.file.proofs.opening.open_file.Statement.{statement}
 use Rattle.file.proofs.opening.open_file.Tie as tie
@@ -10,14 +14,15 @@ unfolding openAnswer openedFile
 returns c =
     let o = c .before .before in
     let p = sym (o .open .ensures .0) ∙ c .enum-told .given .1 in
-    rw (p, ← o .open .ensures .1 p .1)
+    sym (ap₂ openedFile p (sym (o .open .ensures .1 p .1)))
 
 returns-2 : tie.Need-returns-2
 unfolding openAnswer openedFile
 returns-2 c =
     let r = c .before in
     let o = r .before .before in
-    rw (← o .open .ensures .0, r .result .given .1)
+    let a = o .before .before .args in
+    sym (ap (λ (result : Outcome). openedFile result (length (fileBlocks (now (a .image)) (a .id .number)))) (sym (o .open .ensures .0) ∙ r .result .given .1))
 
 pub open-file-spec : {M : Type 1} → statement M
 open-file-spec = tie.close (tie.spec (search needs) (search needs) (search needs) returns returns-2)

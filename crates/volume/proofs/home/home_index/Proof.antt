@@ -1,12 +1,12 @@
 -- The loop is at i while none of the first i positions has a home block.
 use borrow.Author.Needs.{needs}
 use native.Mathlib.Omega.{arith}
-use mathlib.Core.Path.{_≡_, sym, _∙_}
+use mathlib.Core.Path.{_≡_, sym, ap₂, _∙_}
 use Prim.Native.Nat.{_+_, _/_, _-_, _≤_}
 use denote.Ref.{now}
 use Rattle.image.specs.Blocks.{block}
 use Rattle.image.specs.First.{first}
-use Rattle.image.proofs.First.{first-start, first-here, first-on, first-none}
+use Rattle.image.proofs.First.{first-here, first-on, first-none}
 use Rattle.image.proofs.BlockLaws.{block-length}
 use Rattle.volume.specs.Home.{position, positions, homeAt, homeIndex}
 use Rattle.volume.proofs.HomeLaws.{position-below, homeIndex-by}
@@ -24,7 +24,7 @@ unfolding positions
 loop-holds c =
     let a = c .before .args in
     let image = now (a .image) in
-    (search needs, homeIndex-by image (a .n) (omega arith) ∙ first-start (homeAt image) ((a .n + 255) / 256))
+    (search needs, homeIndex-by image (a .n) (omega arith) ∙ ap₂ (first (homeAt image)) (omega arith) (omega arith))
 
 is-home-requires : tie.Need-is-home-requires Inv-loop μ-loop
 unfolding positions

@@ -36,7 +36,7 @@ slot-read c =
 returns : tie.Need-returns
 returns c =
     let k = c .before in
-    sym (slot-none (now (k .before .args .image)) (record { each = λ i. omega (arith, k .shared-slice-known .given i) }) (k .before .args .n .0) (c .if1 .taken))
+    sym (slot-none (now (k .before .args .image)) (record { each = λ i. omega (arith, k .shared-slice-known .given i) }) (k .before .args .n .0) (omega arith))
 
 add-block : tie.Need-add-block
 add-block c = omega (arith, room (c .before .before .before))
