@@ -26,6 +26,6 @@ searchIn image lbns w from to = first (wantedAt image lbns w) from (min to (32 *
 abbrev pub Inside : List ℕ → List ℕ → Type 0
 Inside image h = (p : ℕ) → p < pointers h → pointerLbn h (pointersAt h + 4 * p) + pointerCount h (pointersAt h + 4 * p) ≤ blocks image
 
--- The volume opens, and the file whose first header has number n does.
+-- 01, The work and its edge: "Every call on a volume opens it first". The image opens as v, and so does the file whose first header has number n.
 abbrev pub FileOpen : List ℕ → Volume → ℕ → Type 0
 FileOpen image v n = Open image v × IsFirst image n × (goodChain image n ≡ true)

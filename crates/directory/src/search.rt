@@ -116,7 +116,7 @@ pub(crate) fn search_file(
     }
 }
 
-// How many records a file of so many blocks has.
+// How many records a file of so many blocks has. A chain has at most 256 headers of 32,512 blocks, so the number fits.
 pub(crate) fn record_count(blocks: u32) -> u32
     requires { ⌜ blocks ≤ 8323072 ⌝ }
     ensures { λ r. ⌜ r ≡ 32 * blocks ⌝ }
