@@ -54,7 +54,7 @@ fn is_labelled(b: &[u8]) -> bool
     true
 }
 
-// Whether the fields of one word or two are those of a home block.
+// Whether H.IBSZ, H.IBLB, H.FMAX, H.SBCL and H.VLEV are those of a home block.
 fn has_home_fields(b: &[u8]) -> bool
     requires { ⌜ length (now b) ≡ 512 ⌝ }
     ensures { λ r. ⌜ r ≡ (not (eqb (hIbsz (now (b .entry))) 0)

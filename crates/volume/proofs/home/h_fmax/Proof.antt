@@ -1,3 +1,4 @@
+-- The field is the word at byte 6.
 use borrow.Author.Needs.{needs}
 use Rattle.volume.specs.Home.{hFmax}
 use Rattle.volume.proofs.home.h_fmax.Statement.{statement}

@@ -1,3 +1,4 @@
+-- The field is the word at byte 0.
 use borrow.Author.Needs.{needs}
 use Rattle.volume.specs.Home.{hIbsz}
 use Rattle.volume.proofs.home.h_ibsz.Statement.{statement}

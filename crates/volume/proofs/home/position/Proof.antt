@@ -1,3 +1,4 @@
+-- The first position, and the multiples of 256.
 use borrow.Author.Needs.{needs}
 use native.Mathlib.Omega.{arith}
 use mathlib.Core.Path.{ap}

@@ -1,3 +1,4 @@
+-- The LBNs of the first two blocks, and of the row after them.
 use borrow.Author.Needs.{needs}
 use native.Mathlib.Omega.{arith}
 use mathlib.Core.Path.{sym, ap}
