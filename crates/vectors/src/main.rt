@@ -155,6 +155,17 @@ fn use_again(h: &mut [u8])
     put_word(h, 510, sum);
 }
 
+// The user's story: file number 6 is used again, and the old entry still names 6,9.
+fn old_entry(image: &mut [u8])
+    requires { ⌜ length (now image) ≡ 51200 ⌝ }
+{
+    say(b"file number 6 is used again\n");
+    use_again(&mut image[4096..4608]);
+    look_up(image);
+    open_file(image, 6, 9);
+    open_file(image, 6, 10);
+}
+
 fn main() {
     let mut image = [0u8; 51200];
     let n = io::read_full(STDIN_FILENO, &mut image);
@@ -164,11 +175,7 @@ fn main() {
     open_volume(&image);
     covers(&image);
     directory(&image);
-    say(b"file number 6 is used again\n");
-    use_again(&mut image[4096..4608]);
-    look_up(&image);
-    open_file(&image, 6, 9);
-    open_file(&image, 6, 10);
+    old_entry(&mut image);
     storage_map_of(516096);
     storage_map_of(1044480);
 }
