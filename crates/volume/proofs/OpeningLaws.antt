@@ -128,6 +128,18 @@ module _ (home iblb : ℕ) where
   unfolding indexLbn
   indexLbn-row i l = rw (ne-eqb i 0 (omega arith), ne-eqb i 1 (omega arith))
 
+-- From block 2 of the index file on, one block that fits a run decides for those after it.
+pub run-rises : (home iblb lbn k c i : ℕ) → 2 ≤ k + i → lbn + i ≡ indexLbn home iblb (k + i)
+    → below i (λ j. eqb (lbn + j) (indexLbn home iblb (k + j))) ≡ true → below c (λ j. eqb (lbn + j) (indexLbn home iblb (k + j))) ≡ true
+run-rises home iblb lbn k c i row here before =
+    below-all c (λ j. eqb (lbn + j) (indexLbn home iblb (k + j))) (λ j l. go j (decLt j i))
+  where
+    go : (j : ℕ) → Dec (j < i) → eqb (lbn + j) (indexLbn home iblb (k + j)) ≡ true
+    go j (yes l) = below-at i (λ j. eqb (lbn + j) (indexLbn home iblb (k + j))) before j l
+    go j (no l) =
+        eq-eqb (lbn + j) (indexLbn home iblb (k + j))
+        (omega (arith, here, indexLbn-row home iblb (k + i) row, indexLbn-row home iblb (k + j) (omega arith)))
+
 -- A walk over the runs of an index file. The c blocks from place k on are those from an LBN on.
 module _ (home iblb : ℕ) (lbns : List ℕ) (lbn k c : ℕ) (row : (i : ℕ) → i < c → getD lbns (k + i) 0 ≡ lbn + i) where
   abbrev runTest : ℕ → Bool

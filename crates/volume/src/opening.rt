@@ -118,7 +118,8 @@ fn index_lbn(home: u32, iblb: u32, i: u32) -> u32
     iblb + (i - 2)
 }
 
-// Whether the c blocks from an LBN on are blocks k, k + 1 and so on of the index file.
+// Whether the c blocks from an LBN on are blocks k, k + 1 and so on of the index file. From its block 2 on the LBNs of both rise by one, so the
+// first such block decides for the rest.
 fn is_index_run(lbn: u32, c: u32, home: u32, iblb: u32, k: u32) -> bool
     requires { ⌜ (lbn + c < 2 ^ 32) × (iblb + k + c < 2 ^ 32) ⌝ }
     ensures { λ r. ⌜ r ≡ below c (λ i. eqb (lbn + i) (indexLbn home iblb (k + i))) ⌝ }
@@ -127,6 +128,9 @@ fn is_index_run(lbn: u32, c: u32, home: u32, iblb: u32, k: u32) -> bool
     while i < c {
         if lbn + i != index_lbn(home, iblb, k + i) {
             return false;
+        }
+        if 2 <= k + i {
+            return true;
         }
         i += 1;
     }
