@@ -3,4 +3,5 @@
 pub mod directories;
 pub mod files;
 pub mod names;
+pub mod sequence;
 pub mod volumes;

@@ -1,0 +1,57 @@
+-- An ID with another sequence number is refused: a file that opens has the sequence number of its ID.
+use mathlib.Core.Path.{_≡_, refl}
+use mathlib.Core.List.{List}
+use Prim.Native.Nat.{ℕ}
+use Rattle.answer.specs.declared.types.FileId.{FileId}
+use Rattle.answer.specs.declared.types.Name.{Name}
+use Rattle.answer.specs.declared.refusal.Refusal.{Refusal}
+use Rattle.answer.specs.declared.refusal.Refusal.the-variants as refusal
+use Rattle.answer.specs.declared.outcome.Outcome.{Outcome}
+use Rattle.answer.specs.declared.outcome.Outcome.the-variants.{Passed, Refused}
+use Rattle.answer.proofs.RefusalLaws.{refused-number}
+use Rattle.file.specs.Opening.{openFile, openedFile, openAnswer}
+use Rattle.file.specs.Mapping.{mapAnswer}
+use Rattle.file.proofs.OpeningLaws.{opened}
+use Rattle.file.proofs.MappingLaws.{map-refused}
+use Rattle.directory.specs.LookUp.{lookUp, nextRecord}
+use Rattle.directory.proofs.LookUpLaws.{look-refused, next-refused}
+use Rattle.ods1.specs.Reading.{openedFileWords, mappedWords, blockWords, foundWords, steppedWords}
+use Rattle.ods1.specs.Sequence.{OtherSequence, IsRefused, SequenceAsked}
+
+-- What opening a file is refused with.
+record Refuses (image : List ℕ) (id : FileId) : Type 0 where
+  why : Refusal
+  is : openFile image id ≡ Refused why
+
+module _ (image : List ℕ) (id : FileId) (other : OtherSequence image id) where
+  refuses : Refuses image id
+  refuses = go (openFile image id) refl
+    where
+      go : (o : Outcome) → openFile image id ≡ o → Refuses image id
+      go Passed e = absurd (other (opened image id e .found .sequence))
+      go (Refused r) e = record { why = r; is = e }
+
+  open-refused : IsRefused (openedFileWords (openAnswer image id))
+  unfolding openAnswer openedFile
+  open-refused = rw (refuses .is) (refused-number (refuses .why))
+
+  mapped-refused : (vbn : ℕ) → IsRefused (mappedWords (mapAnswer image id vbn))
+  mapped-refused vbn = rw (map-refused image id vbn (refuses .why) (refuses .is)) (refused-number (refuses .why))
+
+  block-refused : (vbn : ℕ) → IsRefused (blockWords (mapAnswer image id vbn))
+  block-refused vbn = rw (map-refused image id vbn (refuses .why) (refuses .is)) (refused-number (refuses .why))
+
+  found-refused : (name : Name) → IsRefused (foundWords (lookUp image id name))
+  found-refused name = rw (look-refused image id name (refuses .why) (refuses .is)) (refused-number (refuses .why))
+
+  stepped-refused : (place : ℕ) → IsRefused (steppedWords (nextRecord image id place))
+  stepped-refused place = rw (next-refused image id place (refuses .why) (refuses .is)) (refused-number refusal.Absent)
+
+pub sequence-asked : SequenceAsked
+sequence-asked = record {
+  open-file = open-refused;
+  map = λ image id vbn other. mapped-refused image id other vbn;
+  block = λ image id vbn other. block-refused image id other vbn;
+  look-up = λ image id name other. found-refused image id other name;
+  next-record = λ image id place other. stepped-refused image id other place;
+}

@@ -1,0 +1,31 @@
+-- The claim that the product stands for: an ID with another sequence number than the header's reads nothing.
+-- Demand 2: "A call that opens, reads or changes a file by an ID whose sequence number is not the header's is refused." The calls that change a file
+-- are not built yet.
+use mathlib.Core.Path.{_≡_}
+use mathlib.Core.List.{List}
+use Prim.Native.Nat.{ℕ}
+use lib.ListN.{getD}
+use Rattle.answer.specs.declared.types.FileId.{FileId}
+use Rattle.answer.specs.declared.types.Name.{Name}
+use Rattle.header.specs.Fields.{hFseq}
+use Rattle.volume.specs.Volume.{header}
+use Rattle.file.specs.Opening.{openAnswer}
+use Rattle.file.specs.Mapping.{mapAnswer}
+use Rattle.directory.specs.LookUp.{lookUp, nextRecord}
+use Rattle.ods1.specs.Reading.{openedFileWords, mappedWords, blockWords, foundWords, steppedWords}
+
+-- The sequence number of the ID is not H.FSEQ of the header in the slot of its number.
+abbrev pub OtherSequence : List ℕ → FileId → Type 0
+OtherSequence image id = hFseq (header image (id .number)) ≡ id .sequence → ⊥
+
+-- The first word of an answer is its number, and 0 is DONE.
+abbrev pub IsRefused : List ℕ → Type 0
+IsRefused words = getD words 0 0 ≡ 0 → ⊥
+
+-- On every image, each exported call that reads a file by such an ID is refused.
+pub record SequenceAsked : Type 0 where
+  pub open-file : (image : List ℕ) (id : FileId) → OtherSequence image id → IsRefused (openedFileWords (openAnswer image id))
+  pub map : (image : List ℕ) (id : FileId) (vbn : ℕ) → OtherSequence image id → IsRefused (mappedWords (mapAnswer image id vbn))
+  pub block : (image : List ℕ) (id : FileId) (vbn : ℕ) → OtherSequence image id → IsRefused (blockWords (mapAnswer image id vbn))
+  pub look-up : (image : List ℕ) (id : FileId) (name : Name) → OtherSequence image id → IsRefused (foundWords (lookUp image id name))
+  pub next-record : (image : List ℕ) (id : FileId) (place : ℕ) → OtherSequence image id → IsRefused (steppedWords (nextRecord image id place))
