@@ -11,9 +11,8 @@ use lib.Seq.{getD-take, getD-drop}
 use Rattle.image.specs.Words.{byteAt, wordAt}
 use Rattle.image.proofs.WordLaws.{word-same}
 use Rattle.answer.specs.declared.types.Name.{Name}
-use Rattle.directory.specs.Records.{recordIn, entryOf, isEmpty, sameName, isWanted}
-use Rattle.directory.specs.Search.{wantedIn}
-use Rattle.directory.specs.declared.records.Wanted.the-variants.{Any, Named}
+use Rattle.records.specs.Records.{recordIn, entryOf, isEmpty, sameName, isWanted, wantedIn}
+use Rattle.records.specs.declared.Wanted.the-variants.{Any, Named}
 
 module _ (b : List ℕ) (i : ℕ) where
   record-byte : (o : ℕ) → o < 16 → byteAt (recordIn b i) o ≡ byteAt b (16 * i + o)
