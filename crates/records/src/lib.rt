@@ -67,14 +67,16 @@ fn is_named(b: &[u8], i: u32, name: Name) -> bool
     ensures { λ r. ⌜ r ≡ wantedIn (now (b .entry)) (Named name) i ⌝ }
 {
     let at = 16 * (i as usize);
-    if word_at(b, at) == 0 {
+    if word_at(b, at + 14) != name.version {
         return false;
     }
-    (word_at(b, at + 6) == name.name1)
+    if word_at(b, at + 6) != name.name1 {
+        return false;
+    }
+    (word_at(b, at) != 0)
         & (word_at(b, at + 8) == name.name2)
         & (word_at(b, at + 10) == name.name3)
         & (word_at(b, at + 12) == name.typ)
-        & (word_at(b, at + 14) == name.version)
 }
 
 // Of the records of a block from one place to before another, the first that is not empty; the second place where none is.
