@@ -21,11 +21,10 @@ use Rattle.file.specs.Chains.{fileBlocks}
 use Rattle.file.specs.Opening.{openFile}
 use Rattle.file.proofs.SizeLaws.{file-below}
 use Rattle.file.proofs.OpeningLaws.{opened}
-use Rattle.directory.specs.Records.{wantedAt, recordCount}
-use Rattle.directory.specs.Search.{searchIn, FileOpen}
+use Rattle.records.specs.declared.Wanted.{Wanted}
+use Rattle.records.specs.declared.Wanted.the-variants.{Any, Named}
+use Rattle.directory.specs.Search.{wantedAt, recordCount, searchIn, FileOpen}
 use Rattle.directory.specs.LookUp.{firstWanted, entryOfFile, findName, foundEntry, lookUp, orAbsent, findNext, steppedTo, nextRecord}
-use Rattle.directory.specs.declared.records.Wanted.{Wanted}
-use Rattle.directory.specs.declared.records.Wanted.the-variants.{Any, Named}
 use Rattle.directory.specs.declared.look_up.Found.the-variants as found
 use Rattle.directory.specs.declared.next.Stepped.the-variants as stepped
 use Rattle.directory.proofs.SearchLaws.{search-all}

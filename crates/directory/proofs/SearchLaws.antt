@@ -18,9 +18,9 @@ use Rattle.header.proofs.WholeLaws.{whole-is}
 use Rattle.volume.specs.Volume.{header, faultOf}
 use Rattle.file.specs.Chains.{fileBlocks}
 use Rattle.file.proofs.ChainLaws.{Walk, walk-inside, walk-here}
-use Rattle.directory.specs.Records.{entryAt, wantedAt}
-use Rattle.directory.specs.Search.{wantedIn, searchIn, Inside}
-use Rattle.directory.specs.declared.records.Wanted.{Wanted}
+use Rattle.records.specs.Records.{wantedIn}
+use Rattle.records.specs.declared.Wanted.{Wanted}
+use Rattle.directory.specs.Search.{entryAt, wantedAt, searchIn, Inside}
 
 -- The blocks of part stand in the list lbns from place k on.
 pub record Part (lbns : List ℕ) (k : ℕ) (part : List ℕ) : Type 0 where

@@ -12,10 +12,10 @@ use Rattle.answer.specs.Outcome.{unless, _then_}
 use Rattle.radix50.specs.Names.{proper}
 use Rattle.file.specs.Chains.{fileBlocks}
 use Rattle.file.specs.Opening.{openFile}
-use Rattle.directory.specs.Records.{entryAt, wantedAt, recordCount}
-use Rattle.directory.specs.declared.records.Entry.{Entry}
-use Rattle.directory.specs.declared.records.Wanted.{Wanted}
-use Rattle.directory.specs.declared.records.Wanted.the-variants.{Any, Named}
+use Rattle.records.specs.declared.Entry.{Entry}
+use Rattle.records.specs.declared.Wanted.{Wanted}
+use Rattle.records.specs.declared.Wanted.the-variants.{Any, Named}
+use Rattle.directory.specs.Search.{entryAt, wantedAt, recordCount}
 use Rattle.directory.specs.declared.look_up.Found.{Found}
 use Rattle.directory.specs.declared.look_up.Found.the-variants as found
 use Rattle.directory.specs.declared.next.Stepped.{Stepped}

@@ -1,21 +1,30 @@
--- A search among the records of some blocks.
+-- The records of a directory, and a search among those of some blocks.
 use mathlib.Core.Path.{_≡_}
 use mathlib.Core.Bool.{Bool, true}
 use mathlib.Core.List.{List}
-use Prim.Native.Nat.{ℕ, _+_, _*_, _-_, min, _≤_, _<_}
-use lib.ListN.{length}
+use Prim.Native.Nat.{ℕ, _+_, _*_, _-_, _/_, _%_, min, _≤_, _<_}
+use lib.ListN.{length, getD}
+use Rattle.image.specs.Blocks.{block}
 use Rattle.image.specs.First.{first}
 use Rattle.header.specs.Pointers.{pointerLbn, pointerCount, pointersAt, pointers}
 use Rattle.volume.specs.Home.{blocks}
 use Rattle.volume.specs.Opening.{Open}
 use Rattle.volume.specs.declared.volume.Volume.{Volume}
-use Rattle.file.specs.Chains.{goodChain, IsFirst}
-use Rattle.directory.specs.Records.{recordIn, entryOf, isWanted, wantedAt}
-use Rattle.directory.specs.declared.records.Wanted.{Wanted}
+use Rattle.file.specs.Chains.{goodChain, IsFirst, fileBlocks}
+use Rattle.records.specs.Records.{recordIn, entryOf, isWanted}
+use Rattle.records.specs.declared.Entry.{Entry}
+use Rattle.records.specs.declared.Wanted.{Wanted}
 
--- The test of a search, at record i of one block.
-unfoldable pub wantedIn : List ℕ → Wanted → ℕ → Bool
-wantedIn b w i = isWanted w (entryOf (recordIn b i))
+-- 01, Names and directories: "Every mapped block holds 32 records." Record r, from 0, of the blocks in a list of LBNs, "in VBN order".
+unfoldable pub entryAt : List ℕ → List ℕ → ℕ → Entry
+entryAt image lbns r = entryOf (recordIn (block image (getD lbns (r / 32) 0)) (r % 32))
+
+unfoldable pub wantedAt : List ℕ → List ℕ → Wanted → ℕ → Bool
+wantedAt image lbns w r = isWanted w (entryAt image lbns r)
+
+-- How many records the directory has whose first header has number n.
+unfoldable pub recordCount : List ℕ → ℕ → ℕ
+recordCount image n = 32 * length (fileBlocks image n)
 
 -- 01, Names and directories: "the first equal record not empty, in VBN order", and the walker's "next record". The first record wanted of those,
 -- from one place to before another, that the blocks in a list of LBNs hold; where there is none, the place where these end.

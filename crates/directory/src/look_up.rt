@@ -1,5 +1,4 @@
 // Looking a name up in a directory.
-use crate::records::Wanted;
 use crate::search::entry_of_file;
 use crate::search::record_count;
 use crate::search::search_file;
@@ -9,12 +8,13 @@ use answer::types::FileId;
 use answer::types::FileNumber;
 use answer::types::Name;
 use file::opening::open;
+use records::Wanted;
 use volume::volume::Volume;
 ghost use mathlib.Core.Path.{_≡_};
 ghost use Rattle.answer.specs.declared.outcome.Outcome.the-variants.{Passed};
 ghost use Rattle.volume.specs.Volume.{volumeOf};
 ghost use Rattle.file.specs.Opening.{openFile};
-ghost use Rattle.directory.specs.Records.{recordCount};
+ghost use Rattle.directory.specs.Search.{recordCount};
 ghost use Rattle.directory.specs.LookUp.{lookUp};
 
 // The answer of a look-up.

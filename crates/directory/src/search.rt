@@ -1,10 +1,6 @@
 // Searching the records of blocks: of one, of a run, of a header, of a file. Each search takes two places, and looks at the records from the
 // first to before the second; blocks before the first are stepped over unread. Places count records from 0, in VBN order. A search answers the
 // place of the first record wanted, or where it ended.
-use crate::records::Entry;
-use crate::records::Wanted;
-use crate::records::entry_at;
-use crate::records::first_in_block;
 use answer::types::FileNumber;
 use file::chains::header_of;
 use file::chains::lbn_at;
@@ -15,6 +11,10 @@ use header::pointers::pointer_count;
 use header::pointers::pointer_lbn;
 use header::pointers::pointer_number;
 use image::blocks::block;
+use records::Entry;
+use records::Wanted;
+use records::entry_at;
+use records::first_in_block;
 use volume::volume::Volume;
 ghost use mathlib.Core.Path.{_≡_};
 ghost use mathlib.Core.List.{[], _∷_};

@@ -5,10 +5,10 @@ use mathlib.Core.Bool.{true}
 use native.Mathlib.Omega.{arith}
 use denote.Ref.{now}
 use Rattle.radix50.specs.Names.{proper}
+use Rattle.records.specs.declared.Entry.{Entry}
+use Rattle.records.specs.declared.Wanted.the-variants.{Named}
 use Rattle.directory.specs.Search.{FileOpen}
 use Rattle.directory.specs.LookUp.{firstWanted}
-use Rattle.directory.specs.declared.records.Wanted.the-variants.{Named}
-use Rattle.directory.specs.declared.records.Entry.{Entry}
 use Rattle.directory.specs.declared.look_up.Found.the-variants.{Done}
 use Rattle.directory.proofs.LookUpLaws.{opened-file, records-inside, search-wanted, look-improper, look-absent, look-found}
 use Rattle.directory.proofs.look_up.look_up_opened.Statement.{statement}

@@ -3,9 +3,9 @@ use borrow.Author.Needs.{needs}
 use mathlib.Core.Path.{_≡_, sym}
 use native.Mathlib.Omega.{arith}
 use denote.Ref.{now}
+use Rattle.records.specs.declared.Wanted.the-variants.{Any}
 use Rattle.directory.specs.Search.{FileOpen}
 use Rattle.directory.specs.LookUp.{firstWanted}
-use Rattle.directory.specs.declared.records.Wanted.the-variants.{Any}
 use Rattle.directory.proofs.LookUpLaws.{opened-file, records-inside, search-wanted, wanted-past, next-absent, next-found}
 use Rattle.directory.proofs.next.next_opened.Statement.{statement}
 use Rattle.directory.proofs.next.next_opened.Tie as tie

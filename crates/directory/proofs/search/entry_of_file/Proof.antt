@@ -5,7 +5,7 @@ use native.Mathlib.Omega.{arith}
 use denote.Ref.{now}
 use Rattle.image.specs.Blocks.{block}
 use Rattle.image.proofs.BlockLaws.{block-length}
-use Rattle.directory.specs.Records.{entryAt}
+use Rattle.directory.specs.Search.{entryAt}
 use Rattle.directory.specs.LookUp.{entryOfFile}
 use Rattle.directory.proofs.LookUpLaws.{block-inside}
 use Rattle.directory.proofs.search.entry_of_file.Statement.{statement}

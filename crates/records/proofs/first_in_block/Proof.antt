@@ -1,7 +1,7 @@
 -- By cases on what is wanted.
 use borrow.Author.Needs.{needs}
-use Rattle.directory.proofs.records.first_in_block.Statement.{statement}
-use Rattle.directory.proofs.records.first_in_block.Tie as tie
+use Rattle.records.proofs.first_in_block.Statement.{statement}
+use Rattle.records.proofs.first_in_block.Tie as tie
 
 returns : tie.Need-returns
 returns c = rw (c .before .enum-told .given .1) (c .first-filled .ensures)

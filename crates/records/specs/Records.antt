@@ -1,16 +1,14 @@
--- The records of a directory.
+-- The records of a directory, in one block.
 use mathlib.Core.Bool.{Bool, not, _&&_}
 use mathlib.Core.List.{List}
-use Prim.Native.Nat.{ℕ, _*_, _/_, _%_}
+use Prim.Native.Nat.{ℕ, _*_}
 use lib.Dec.{eqb}
-use lib.ListN.{length, getD, take, drop}
+use lib.ListN.{take, drop}
 use Rattle.image.specs.Words.{wordAt}
-use Rattle.image.specs.Blocks.{block}
 use Rattle.answer.specs.declared.types.Name.{Name}
-use Rattle.file.specs.Chains.{fileBlocks}
-use Rattle.directory.specs.declared.records.Entry.{Entry}
-use Rattle.directory.specs.declared.records.Wanted.{Wanted}
-use Rattle.directory.specs.declared.records.Wanted.the-variants.{Any, Named}
+use Rattle.records.specs.declared.Entry.{Entry}
+use Rattle.records.specs.declared.Wanted.{Wanted}
+use Rattle.records.specs.declared.Wanted.the-variants.{Any, Named}
 
 -- 01, Names and directories: "A directory record has 16 bytes: ID (3 words), name (3), type, version." Record i, from 0, of a block.
 unfoldable pub recordIn : List ℕ → ℕ → List ℕ
@@ -41,13 +39,6 @@ unfoldable pub isWanted : Wanted → Entry → Bool
 isWanted Any e = not (isEmpty e)
 isWanted (Named n) e = not (isEmpty e) && sameName (e .name) n
 
--- 01, Names and directories: "Every mapped block holds 32 records." Record r, from 0, of the blocks in a list of LBNs, "in VBN order".
-unfoldable pub entryAt : List ℕ → List ℕ → ℕ → Entry
-entryAt image lbns r = entryOf (recordIn (block image (getD lbns (r / 32) 0)) (r % 32))
-
-unfoldable pub wantedAt : List ℕ → List ℕ → Wanted → ℕ → Bool
-wantedAt image lbns w r = isWanted w (entryAt image lbns r)
-
--- How many records the directory has whose first header has number n.
-unfoldable pub recordCount : List ℕ → ℕ → ℕ
-recordCount image n = 32 * length (fileBlocks image n)
+-- The test of a search, at record i of a block.
+unfoldable pub wantedIn : List ℕ → Wanted → ℕ → Bool
+wantedIn b w i = isWanted w (entryOf (recordIn b i))

@@ -1,9 +1,9 @@
 -- The eight words of the record are words of the block.
 use borrow.Author.Needs.{needs}
 use denote.Ref.{now}
-use Rattle.directory.proofs.RecordLaws.{entry-in}
-use Rattle.directory.proofs.records.entry_at.Statement.{statement}
-use Rattle.directory.proofs.records.entry_at.Tie as tie
+use Rattle.records.proofs.RecordLaws.{entry-in}
+use Rattle.records.proofs.entry_at.Statement.{statement}
+use Rattle.records.proofs.entry_at.Tie as tie
 
 returns : tie.Need-returns
 returns c =

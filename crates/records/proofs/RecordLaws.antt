@@ -1,6 +1,6 @@
 -- Laws of a record: its words are words of the block.
-use mathlib.Core.Path.{_≡_, ap, _∙_}
-use mathlib.Core.Bool.{not, _&&_}
+use mathlib.Core.Path.{_≡_, sym, ap, _∙_}
+use mathlib.Core.Bool.{Bool, true, false, not, _&&_, and-false, and-comm}
 use mathlib.Core.List.{List}
 use Prim.Native.Nat.{ℕ, _+_, _*_, _<_}
 use native.Mathlib.Nat.{add-zero}
@@ -11,9 +11,14 @@ use lib.Seq.{getD-take, getD-drop}
 use Rattle.image.specs.Words.{byteAt, wordAt}
 use Rattle.image.proofs.WordLaws.{word-same}
 use Rattle.answer.specs.declared.types.Name.{Name}
-use Rattle.directory.specs.Records.{recordIn, entryOf, isEmpty, sameName, isWanted}
-use Rattle.directory.specs.Search.{wantedIn}
-use Rattle.directory.specs.declared.records.Wanted.the-variants.{Any, Named}
+use Rattle.records.specs.Records.{recordIn, entryOf, isEmpty, sameName, isWanted, wantedIn}
+use Rattle.records.specs.declared.Wanted.the-variants.{Any, Named}
+
+-- Of six tests, the last and the second are made first.
+last-first : (a b c d e f : Bool) → (a && (b && c && d && e && f)) ≡ (f && (b && (a && c && d && e)))
+last-first a false c d e f = and-false a ∙ sym (and-false f)
+last-first false true c d e f = sym (and-false f)
+last-first true true c d e f = and-comm (c && d && e) f
 
 module _ (b : List ℕ) (i : ℕ) where
   record-byte : (o : ℕ) → o < 16 → byteAt (recordIn b i) o ≡ byteAt b (16 * i + o)
@@ -39,13 +44,14 @@ module _ (b : List ℕ) (i : ℕ) where
   unfolding wantedIn isWanted isEmpty
   filled-in = rw entry-in
 
-  -- Not empty, and of this name.
+  -- Whether the word at a place of the record is x.
+  abbrev pub has : ℕ → ℕ → Bool
+  has o x = eqb (wordAt b (16 * i + o)) x
+
+  -- Not empty, and of this name: the version and the first word of the name are tested first.
   pub named-in : (n : Name) → wantedIn b (Named n) i ≡
-      (not (eqb (wordAt b (16 * i)) 0)
-      && (eqb (wordAt b (16 * i + 6)) (n .name1)
-      && eqb (wordAt b (16 * i + 8)) (n .name2)
-      && eqb (wordAt b (16 * i + 10)) (n .name3)
-      && eqb (wordAt b (16 * i + 12)) (n .typ)
-      && eqb (wordAt b (16 * i + 14)) (n .version)))
+      (has 14 (n .version) && (has 6 (n .name1) && (not (eqb (wordAt b (16 * i)) 0) && has 8 (n .name2) && has 10 (n .name3) && has 12 (n .typ))))
   unfolding wantedIn isWanted isEmpty sameName
-  named-in n = rw entry-in
+  named-in n =
+      rw entry-in
+      (last-first (not (eqb (wordAt b (16 * i)) 0)) (has 6 (n .name1)) (has 8 (n .name2)) (has 10 (n .name3)) (has 12 (n .typ)) (has 14 (n .version)))

@@ -1,4 +1,4 @@
-// The records of a directory.
+// The records of a directory, in one block.
 use answer::types::FileId;
 use answer::types::Name;
 use image::words::word_at;
@@ -6,9 +6,8 @@ ghost use mathlib.Core.Path.{_≡_};
 ghost use Prim.Native.Nat.{_-_, _≤_, _<_};
 ghost use lib.ListN.{length};
 ghost use Rattle.image.specs.First.{first};
-ghost use Rattle.directory.specs.Records.{recordIn, entryOf};
-ghost use Rattle.directory.specs.Search.{wantedIn};
-ghost use Rattle.directory.specs.declared.records.Wanted.the-variants.{Any, Named};
+ghost use Rattle.records.specs.Records.{recordIn, entryOf, wantedIn};
+ghost use Rattle.records.specs.declared.Wanted.the-variants.{Any, Named};
 
 // What a record has: an ID and a name.
 pub struct Entry {
@@ -25,7 +24,7 @@ pub enum Wanted {
 }
 
 // The entry in record i of a block.
-pub(crate) fn entry_at(b: &[u8], i: u32) -> Entry
+pub fn entry_at(b: &[u8], i: u32) -> Entry
     requires { ⌜ (length (now b) ≡ 512) × (i < 32) ⌝ }
     ensures { λ r. ⌜ r ≡ entryOf (recordIn (now (b .entry)) i) ⌝ }
 {
@@ -68,14 +67,16 @@ fn is_named(b: &[u8], i: u32, name: Name) -> bool
     ensures { λ r. ⌜ r ≡ wantedIn (now (b .entry)) (Named name) i ⌝ }
 {
     let at = 16 * (i as usize);
-    if word_at(b, at) == 0 {
+    if word_at(b, at + 14) != name.version {
         return false;
     }
-    (word_at(b, at + 6) == name.name1)
+    if word_at(b, at + 6) != name.name1 {
+        return false;
+    }
+    (word_at(b, at) != 0)
         & (word_at(b, at + 8) == name.name2)
         & (word_at(b, at + 10) == name.name3)
         & (word_at(b, at + 12) == name.typ)
-        & (word_at(b, at + 14) == name.version)
 }
 
 // Of the records of a block from one place to before another, the first that is not empty; the second place where none is.
@@ -111,7 +112,7 @@ fn first_named(b: &[u8], from: u32, to: u32, name: Name) -> u32
 }
 
 // The same, for a record that is wanted.
-pub(crate) fn first_in_block(b: &[u8], from: u32, to: u32, w: Wanted) -> u32
+pub fn first_in_block(b: &[u8], from: u32, to: u32, w: Wanted) -> u32
     requires { ⌜ (length (now b) ≡ 512) × (from ≤ to) × (to ≤ 32) ⌝ }
     ensures { λ r. ⌜ r ≡ first (wantedIn (now (b .entry)) w) from (to - from) ⌝ }
 {

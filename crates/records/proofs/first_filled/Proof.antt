@@ -6,35 +6,35 @@ use native.Mathlib.Omega.{arith}
 use denote.Ref.{now}
 use Rattle.image.specs.First.{first}
 use Rattle.image.proofs.First.{first-here, first-on, first-none}
-use Rattle.directory.specs.Search.{wantedIn}
-use Rattle.directory.specs.declared.records.Wanted.the-variants.{Named}
-use Rattle.directory.proofs.records.first_named.Statement.{statement}
-use Rattle.directory.proofs.records.first_named.Tie as tie
+use Rattle.records.specs.Records.{wantedIn}
+use Rattle.records.specs.declared.Wanted.the-variants.{Any}
+use Rattle.records.proofs.first_filled.Statement.{statement}
+use Rattle.records.proofs.first_filled.Tie as tie
 
 abbrev Inv-loop : tie.InvT-loop
-Inv-loop b from to name i₀ i = (i ≤ to) × (first (wantedIn b (Named name)) from (to - from) ≡ first (wantedIn b (Named name)) i (to - i))
+Inv-loop b from to i₀ i = (i ≤ to) × (first (wantedIn b Any) from (to - from) ≡ first (wantedIn b Any) i (to - i))
 
 abbrev μ-loop : tie.MeasureT-loop
-μ-loop b from to name i₀ i = to - i
+μ-loop b from to i₀ i = to - i
 
 returns : tie.Need-returns Inv-loop μ-loop
 returns c =
     let l = c .before .before .before in
     let a = l .before .before .args in
-    cc (first-here (wantedIn (now (a .b)) (Named (a .name))) (l .loop .i) (a .to) (omega arith) (cc))
+    cc (first-here (wantedIn (now (a .b)) Any) (l .loop .i) (a .to) (omega arith) (cc))
 
 loop-again : tie.Need-loop-again Inv-loop μ-loop
 loop-again c =
     let l = c .before .before .before in
     let a = l .before .before .args in
-    (search needs, cc (first-on (wantedIn (now (a .b)) (Named (a .name))) (l .loop .i) (a .to) (omega arith) (cc)))
+    (search needs, cc (first-on (wantedIn (now (a .b)) Any) (l .loop .i) (a .to) (omega arith) (cc)))
 
 returns-2 : tie.Need-returns-2 Inv-loop μ-loop
 returns-2 c =
     let l = c .before in
     let a = l .before .before .args in
-    cc (first-none (wantedIn (now (a .b)) (Named (a .name))) (l .loop .i) (a .to) (omega arith))
+    cc (first-none (wantedIn (now (a .b)) Any) (l .loop .i) (a .to) (omega arith))
 
-pub first-named-spec : {M : Type 1} → statement M
-first-named-spec =
+pub first-filled-spec : {M : Type 1} → statement M
+first-filled-spec =
     tie.close (tie.spec Inv-loop μ-loop (search needs) (search needs) returns (search needs) (search needs) loop-again returns-2)
