@@ -1,6 +1,6 @@
 -- Laws of opening a file: what each part answers at the first test that is not met, and what a file that opens has.
-use mathlib.Core.Path.{_≡_, refl, sym, ap, _∙_}
-use mathlib.Core.Bool.{Bool, true, false, not, false≢true}
+use mathlib.Core.Path.{_≡_, sym, _∙_}
+use mathlib.Core.Bool.{true, false, not}
 use mathlib.Core.List.{List}
 use Prim.Native.Nat.{ℕ}
 use native.Mathlib.Omega.{arith}
@@ -12,34 +12,13 @@ use Rattle.answer.specs.declared.refusal.Refusal.the-variants as refusal
 use Rattle.answer.specs.declared.outcome.Outcome.{Outcome}
 use Rattle.answer.specs.declared.outcome.Outcome.the-variants.{Passed, Refused}
 use Rattle.answer.specs.Outcome.{unless, _then_}
+use Rattle.answer.proofs.OutcomeLaws.{refused-not, passed-then, passed-last, passed-first}
 use Rattle.header.specs.Fields.{hFseq, segment}
 use Rattle.volume.specs.Volume.{header, faultOf, isNumber}
 use Rattle.volume.specs.Opening.{openVolume}
-use Rattle.volume.proofs.OpeningLaws.{passed-first, passed-last}
 use Rattle.file.specs.Chains.{goodChain, IsFirst}
 use Rattle.file.specs.declared.opening.OpenFile.{OpenFile}
 use Rattle.file.specs.Opening.{find, locked, access, chained, openFile, Tells}
-
--- What comes after a row of tests is asked where the row is passed.
-pub refused-not : (r : Refusal) → Refused r ≡ Passed → ⊥
-refused-not r e = false≢true (ap isPassed e)
-  where
-    isPassed : Outcome → Bool
-    isPassed Passed = true
-    isPassed (Refused r) = false
-
-pub passed-then : (a b : Outcome) → (a then b) ≡ Passed → (a ≡ Passed) × (b ≡ Passed)
-unfolding _then_
-passed-then Passed b e = (refl, e)
-passed-then (Refused r) b e = absurd (refused-not r e)
-
-pub then-passed : (a b : Outcome) → a ≡ Passed → (a then b) ≡ b
-unfolding _then_
-then-passed a b e = rw e
-
-pub then-refused : (a b : Outcome) (r : Refusal) → a ≡ Refused r → (a then b) ≡ Refused r
-unfolding _then_
-then-refused a b r e = rw e
 
 -- A refusal tells nothing but itself.
 pub tells-refused : (image : List ℕ) (id : FileId) (result : Outcome) (r : Refusal) (file : OpenFile)
