@@ -1,45 +1,27 @@
 -- Laws of opening a file: what each part answers at the first test that is not met, and what a file that opens has.
-use mathlib.Core.Path.{_≡_, refl, sym, ap, _∙_}
-use mathlib.Core.Bool.{Bool, true, false, not, false≢true}
+use mathlib.Core.Path.{_≡_, refl, sym, subst, _∙_}
+use mathlib.Core.Bool.{true, false, not}
 use mathlib.Core.List.{List}
 use Prim.Native.Nat.{ℕ}
 use native.Mathlib.Omega.{arith}
 use borrow.Author.Tests.{eq-eqb, ne-eqb, eqb-true, not-true}
 use lib.Dec.{eqb}
 use Rattle.answer.specs.declared.types.FileId.{FileId}
+use Rattle.answer.specs.declared.types.Lbn.{Lbn}
 use Rattle.answer.specs.declared.refusal.Refusal.{Refusal}
 use Rattle.answer.specs.declared.refusal.Refusal.the-variants as refusal
 use Rattle.answer.specs.declared.outcome.Outcome.{Outcome}
 use Rattle.answer.specs.declared.outcome.Outcome.the-variants.{Passed, Refused}
 use Rattle.answer.specs.Outcome.{unless, _then_}
+use Rattle.answer.proofs.OutcomeLaws.{refused-not, passed-then, passed-last, passed-first}
 use Rattle.header.specs.Fields.{hFseq, segment}
-use Rattle.volume.specs.Volume.{header, faultOf, isNumber}
+use Rattle.volume.specs.Volume.{slot, header, faultOf, isNumber}
 use Rattle.volume.specs.Opening.{openVolume}
-use Rattle.volume.proofs.OpeningLaws.{passed-first, passed-last}
 use Rattle.file.specs.Chains.{goodChain, IsFirst}
+use Rattle.file.specs.declared.opening.Finding.{Finding}
+use Rattle.file.specs.declared.opening.Finding.the-variants as findings
 use Rattle.file.specs.declared.opening.OpenFile.{OpenFile}
-use Rattle.file.specs.Opening.{find, locked, access, chained, openFile, Tells}
-
--- What comes after a row of tests is asked where the row is passed.
-pub refused-not : (r : Refusal) → Refused r ≡ Passed → ⊥
-refused-not r e = false≢true (ap isPassed e)
-  where
-    isPassed : Outcome → Bool
-    isPassed Passed = true
-    isPassed (Refused r) = false
-
-pub passed-then : (a b : Outcome) → (a then b) ≡ Passed → (a ≡ Passed) × (b ≡ Passed)
-unfolding _then_
-passed-then Passed b e = (refl, e)
-passed-then (Refused r) b e = absurd (refused-not r e)
-
-pub then-passed : (a b : Outcome) → a ≡ Passed → (a then b) ≡ b
-unfolding _then_
-then-passed a b e = rw e
-
-pub then-refused : (a b : Outcome) (r : Refusal) → a ≡ Refused r → (a then b) ≡ Refused r
-unfolding _then_
-then-refused a b r e = rw e
+use Rattle.file.specs.Opening.{find, finding, locked, access, chained, openFile, Tells}
 
 -- A refusal tells nothing but itself.
 pub tells-refused : (image : List ℕ) (id : FileId) (result : Outcome) (r : Refusal) (file : OpenFile)
@@ -47,6 +29,28 @@ pub tells-refused : (image : List ℕ) (id : FileId) (result : Outcome) (r : Ref
 tells-refused image id result r file e o b = (o ∙ sym e, λ p. absurd (refused-not r (sym e ∙ p)), omega arith)
 
 module _ (image : List ℕ) (id : FileId) where
+  -- What finding a header comes to, by its tests.
+  pub finding-at : find image id ≡ Passed → (lbn : Lbn) → lbn .0 ≡ slot image (id .number) → findings.At lbn ≡ finding (find image id) (slot image (id .number))
+  unfolding finding
+  finding-at e lbn s = rw (e, ← s)
+
+  pub finding-refused : (r : Refusal) → find image id ≡ Refused r → findings.Refused r ≡ finding (find image id) (slot image (id .number))
+  unfolding finding
+  finding-refused r e = rw e
+
+  -- What is known of the header by what finding it came to.
+  abbrev pub Found : Finding → Type 0
+  Found (findings.At lbn) = (find image id ≡ Passed) × (lbn .0 ≡ slot image (id .number))
+  Found (findings.Refused r) = find image id ≡ Refused r
+
+  pub found : (f : Finding) → f ≡ finding (find image id) (slot image (id .number)) → Found f
+  unfolding finding
+  found f e = subst Found (sym e) (go (find image id) refl)
+    where
+      go : (o : Outcome) → find image id ≡ o → Found (finding (find image id) (slot image (id .number)))
+      go Passed q = rw q (q, refl)
+      go (Refused r) q = rw q q
+
   pub find-relvol : (id .volume ≡ 0 → ⊥) → find image id ≡ Refused refusal.Relvol
   unfolding find unless _then_
   find-relvol v = rw (ne-eqb (id .volume) 0 v)
@@ -77,13 +81,10 @@ module _ (image : List ℕ) (id : FileId) where
           find-passed s =
               rw (eq-eqb (id .volume) 0 v, n, eq-eqb (faultOf image (id .number)) 0 w, eq-eqb (hFseq (header image (id .number))) (id .sequence) q, eq-eqb (segment (header image (id .number))) 0 s)
 
-  pub access-locked : locked (header image (id .number)) ≡ true → access image id ≡ Refused refusal.Locked
-  unfolding access unless
-  access-locked l = rw l
-
-  pub access-passed : locked (header image (id .number)) ≡ false → access image id ≡ Passed
-  unfolding access unless
-  access-passed l = rw l
+  -- The flags are those of the header that was found.
+  pub access-by : (h : List ℕ) → h ≡ header image (id .number) → unless (not (locked h)) refusal.Locked ≡ access image id
+  unfolding access
+  access-by h e = rw e
 
   pub chained-bad : goodChain image (id .number) ≡ false → chained image id ≡ Refused refusal.Chain
   unfolding chained unless

@@ -11,9 +11,11 @@ use Rattle.answer.specs.declared.outcome.Outcome.{Outcome}
 use Rattle.answer.specs.declared.outcome.Outcome.the-variants as outcome
 use Rattle.answer.specs.Outcome.{unless, _then_}
 use Rattle.header.specs.Fields.{hFseq, userFlags, systemFlags, segment}
-use Rattle.volume.specs.Volume.{header, faultOf, isNumber, volumeOf}
+use Rattle.volume.specs.Volume.{slot, header, faultOf, isNumber, volumeOf}
 use Rattle.volume.specs.Opening.{openVolume}
 use Rattle.file.specs.Chains.{goodChain, fileBlocks}
+use Rattle.file.specs.declared.opening.Finding.{Finding}
+use Rattle.file.specs.declared.opening.Finding.the-variants as findings
 use Rattle.file.specs.declared.opening.OpenFile.{OpenFile}
 use Rattle.file.specs.declared.opening.OpenedFile.{OpenedFile}
 use Rattle.file.specs.declared.opening.OpenedFile.the-variants.{Done, Refused}
@@ -27,6 +29,11 @@ find image id =
     then unless (eqb (faultOf image (id .number)) 0) (refusal.Header (faultOf image (id .number)))
     then unless (eqb (hFseq (header image (id .number))) (id .sequence)) refusal.Sequence
     then unless (eqb (segment (header image (id .number))) 0) refusal.Segment
+
+-- What finding a header comes to: the LBN that it lies at, or the refusal.
+unfoldable pub finding : Outcome → ℕ → Finding
+finding outcome.Passed lbn = findings.At (record { 0 = lbn })
+finding (outcome.Refused r) lbn = findings.Refused r
 
 -- A flag, given by its value (a power of 2), is set.
 unfoldable pub hasFlag : ℕ → ℕ → Bool
@@ -48,12 +55,13 @@ chained image id = unless (goodChain image (id .number)) refusal.Chain
 unfoldable pub openFile : List ℕ → FileId → Outcome
 openFile image id = openVolume image then find image id then access image id then chained image id
 
--- What the calls that go on from an opened file are told: the outcome, and where that is passed the volume and how many blocks the file has. There
--- are never more than 256 headers with 127 pointers of 256 blocks can cover: 8,323,072.
+-- What the calls that go on from an opened file are told: the outcome, and where that is passed the volume, how many blocks the file has and the
+-- LBN of its first header. There are never more blocks than 256 headers with 127 pointers of 256 blocks can cover: 8,323,072.
 abbrev pub Tells : List ℕ → FileId → Outcome → OpenFile → Type 0
 Tells image id result file =
     (file .outcome ≡ result)
-    × (result ≡ outcome.Passed → (file .volume ≡ volumeOf image) × (file .blocks ≡ length (fileBlocks image (id .number))))
+    × (result ≡ outcome.Passed
+    → (file .volume ≡ volumeOf image) × (file .blocks ≡ length (fileBlocks image (id .number))) × (file .header .0 ≡ slot image (id .number)))
     × (file .blocks ≤ 8323072)
 
 -- 01, Answer numbers: DONE has as value the "block count (open file)".

@@ -21,7 +21,7 @@ ghost use lib.Dec.{eqb};
 ghost use lib.ListN.{length, getD};
 ghost use Rattle.header.specs.Fields.{hFseq, segment, mEfsq};
 ghost use Rattle.header.specs.Whole.{fault};
-ghost use Rattle.volume.specs.Volume.{header, isNumber};
+ghost use Rattle.volume.specs.Volume.{slot, header, isNumber};
 ghost use Rattle.volume.specs.Opening.{Open};
 ghost use Rattle.file.specs.Chains.{slotInUse, linkFrom, goodChain, IsFirst, fileBlocks, chainBlocks};
 
@@ -106,12 +106,12 @@ pub fn header_of(image: &[u8], v: Volume, n: FileNumber) -> &[u8]
     }
 }
 
-// What the chain of the file whose first header has number n comes to, by one walk over its headers.
-pub fn chain_blocks(image: &[u8], v: Volume, n: FileNumber) -> Chain
-    requires { ⌜ Open (now image) v × IsFirst (now image) (n .0) ⌝ }
+// What the chain of the file whose first header has number n and lies at this LBN comes to, by one walk over its headers.
+pub fn chain_blocks(image: &[u8], v: Volume, n: FileNumber, lbn: Lbn) -> Chain
+    requires { ⌜ Open (now image) v × IsFirst (now image) (n .0) × (lbn .0 ≡ slot (now image) (n .0)) ⌝ }
     ensures { λ r. ⌜ r ≡ chainBlocks (now (image .entry)) (n .0) ⌝ }
 {
-    let mut h = header_of(image, v, n);
+    let mut h = block(image, lbn.0);
     let mut count: u32 = 0;
     loop {
         count += block_count(h);

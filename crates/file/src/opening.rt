@@ -1,12 +1,12 @@
 // Opening a file by its ID.
 use crate::chains::Chain;
 use crate::chains::chain_blocks;
-use crate::chains::header_of;
 use crate::chains::slot_in_use;
 use answer::outcome::Outcome;
 use answer::refusal::Refusal;
 use answer::types::FileId;
 use answer::types::FileNumber;
+use answer::types::Lbn;
 use header::fields::h_fseq;
 use header::fields::segment;
 use header::fields::system_flags;
@@ -16,13 +16,14 @@ use image::blocks::block;
 use volume::volume::Slot;
 use volume::volume::Volume;
 ghost use mathlib.Core.Path.{_≡_};
-ghost use mathlib.Core.Bool.{true};
+ghost use mathlib.Core.Bool.{not};
+ghost use Rattle.answer.specs.declared.refusal.Refusal.the-variants as refusal;
 ghost use Rattle.answer.specs.declared.outcome.Outcome.the-variants as outcome;
-ghost use Rattle.answer.specs.Outcome.{_then_};
-ghost use Rattle.volume.specs.Volume.{isNumber};
+ghost use Rattle.answer.specs.Outcome.{unless, _then_};
+ghost use Rattle.volume.specs.Volume.{slot};
 ghost use Rattle.volume.specs.Opening.{Open};
 ghost use Rattle.file.specs.Chains.{IsFirst};
-ghost use Rattle.file.specs.Opening.{find, locked, access, chained, openFile, Tells, openAnswer};
+ghost use Rattle.file.specs.Opening.{find, finding, locked, access, chained, openFile, Tells, openAnswer};
 
 // The answer of opening a file.
 pub enum OpenedFile {
@@ -36,17 +37,26 @@ pub struct OpenFile {
     pub outcome: Outcome,
     // The volume; it says nothing where the outcome is a refusal.
     pub volume: Volume,
+    // The LBN of its first header.
+    pub header: Lbn,
     // How many blocks the file has.
     pub blocks: u32,
 }
 
+// What finding a header comes to.
+pub enum Finding {
+    // It lies at this LBN.
+    At(Lbn),
+    Refused(Refusal),
+}
+
 // Finding the header: RELVOL, NUMBER, HEADER, SEQUENCE, SEGMENT.
-fn find(image: &[u8], v: Volume, id: FileId) -> Outcome
+fn find(image: &[u8], v: Volume, id: FileId) -> Finding
     requires { ⌜ Open (now image) v ⌝ }
-    ensures { λ r. ⌜ r ≡ find (now (image .entry)) id ⌝ }
+    ensures { λ r. ⌜ r ≡ finding (find (now (image .entry)) id) (slot (now (image .entry)) (id .number)) ⌝ }
 {
     if id.volume != 0 {
-        return Outcome::Refused(Refusal::Relvol);
+        return Finding::Refused(Refusal::Relvol);
     }
     let n = id.number as u32;
     let place = slot_in_use(image, v, FileNumber(n));
@@ -55,17 +65,17 @@ fn find(image: &[u8], v: Volume, id: FileId) -> Outcome
             let h = block(image, lbn.0);
             let unmet = fault(h, v.blocks, n);
             if unmet != 0 {
-                return Outcome::Refused(Refusal::Header(unmet));
+                return Finding::Refused(Refusal::Header(unmet));
             }
             if h_fseq(h) != id.sequence {
-                return Outcome::Refused(Refusal::Sequence);
+                return Finding::Refused(Refusal::Sequence);
             }
             if segment(h) != 0 {
-                return Outcome::Refused(Refusal::Segment);
+                return Finding::Refused(Refusal::Segment);
             }
-            Outcome::Passed
+            Finding::At(lbn)
         }
-        Slot::Missing => Outcome::Refused(Refusal::Number),
+        Slot::Missing => Finding::Refused(Refusal::Number),
     }
 }
 
@@ -83,11 +93,9 @@ fn is_locked(h: &[u8]) -> bool
 }
 
 // Access to a file whose header was found: LOCKED.
-fn access(image: &[u8], v: Volume, id: FileId) -> Outcome
-    requires { ⌜ Open (now image) v × (isNumber (now image) (id .number) ≡ true) ⌝ }
-    ensures { λ r. ⌜ r ≡ access (now (image .entry)) id ⌝ }
+fn access(h: &[u8]) -> Outcome
+    ensures { λ r. ⌜ r ≡ unless (not (locked (now (h .entry)))) refusal.Locked ⌝ }
 {
-    let h = header_of(image, v, FileNumber(id.number as u32));
     if is_locked(h) {
         Outcome::Refused(Refusal::Locked)
     } else {
@@ -102,20 +110,22 @@ fn refused(v: Volume, r: Refusal) -> OpenFile
     OpenFile {
         outcome: Outcome::Refused(r),
         volume: v,
+        header: Lbn(0),
         blocks: 0,
     }
 }
 
 // The chain of a file to which there is access: CHAIN.
-fn open_chain(image: &[u8], v: Volume, id: FileId) -> OpenFile
-    requires { ⌜ Open (now image) v × IsFirst (now image) (id .number) ⌝ }
+fn open_chain(image: &[u8], v: Volume, id: FileId, lbn: Lbn) -> OpenFile
+    requires { ⌜ Open (now image) v × IsFirst (now image) (id .number) × (lbn .0 ≡ slot (now image) (id .number)) ⌝ }
     ensures { λ r. ⌜ Tells (now (image .entry)) id (chained (now (image .entry)) id) r ⌝ }
 {
-    let found = chain_blocks(image, v, FileNumber(id.number as u32));
+    let found = chain_blocks(image, v, FileNumber(id.number as u32), lbn);
     match found {
         Chain::Good(blocks) => OpenFile {
             outcome: Outcome::Passed,
             volume: v,
+            header: lbn,
             blocks,
         },
         Chain::Bad => refused(v, Refusal::Chain),
@@ -129,14 +139,14 @@ fn open_on(image: &[u8], v: Volume, id: FileId) -> OpenFile
 {
     let found = find(image, v, id);
     match found {
-        Outcome::Passed => {
-            let admitted = access(image, v, id);
+        Finding::At(lbn) => {
+            let admitted = access(block(image, lbn.0));
             match admitted {
-                Outcome::Passed => open_chain(image, v, id),
+                Outcome::Passed => open_chain(image, v, id, lbn),
                 Outcome::Refused(r) => refused(v, r),
             }
         }
-        Outcome::Refused(r) => refused(v, r),
+        Finding::Refused(r) => refused(v, r),
     }
 }
 

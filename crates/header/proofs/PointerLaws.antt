@@ -1,22 +1,16 @@
 -- Laws of the blocks that a header's pointers cover.
 use mathlib.Core.Path.{_≡_, refl, ap, _∙_}
-use mathlib.Core.List.{List, [], _∷_, _++_}
+use mathlib.Core.List.{List, [], _++_}
 use Prim.Native.Nat.{ℕ, zero, suc, _+_, _*_, _-_, _≤_, _<_}
 use native.Mathlib.Numerals.{add-one}
 use native.Mathlib.Decide.{decLt}
 use native.Mathlib.Omega.{arith}
 use borrow.Author.Tests.{lt-ltb, le-ltb}
-use lib.ListN.{length, getD, length-append}
+use lib.ListN.{length, getD, length-append, List·getD-append}
 use lib.Seq.{getD-append-add}
 use Rattle.image.proofs.Numbers.{numbersFrom-length, numbersFrom-at}
 use Rattle.header.specs.Pointers.{pointerLbn, pointerCount, run, runs, placeIn}
 use Rattle.header.specs.declared.pointers.Place.the-variants.{At, Past}
-
--- An element of the first of two lists.
-pub getD-append-left : (a b : List ℕ) (i : ℕ) → i < length a → getD (a ++ b) i 0 ≡ getD a i 0
-getD-append-left [] b i h = absurd (omega arith)
-getD-append-left (x ∷ a) b zero h = refl
-getD-append-left (x ∷ a) b (suc i) h = getD-append-left a b i (omega arith)
 
 module _ (lbns : List ℕ) (i : ℕ) where
   pub place-at : i < length lbns → placeIn lbns i ≡ At (record { 0 = getD lbns i 0 })
@@ -69,7 +63,7 @@ module _ (h : List ℕ) (at : ℕ) where
       go (yes n) f = let e : p ≡ suc k = omega arith in rw e
       go (no n) f =
           rw (← add-one k, runs-more k)
-          (getD-append-left (runs h at k) (run h (at + 4 * k)) i (omega (arith, runs-le p k (omega arith))) ∙ f (omega arith))
+          (List·getD-append (runs h at k) (run h (at + 4 * k)) 0 i (omega (arith, runs-le p k (omega arith))) ∙ f (omega arith))
 
   -- Block i of pointer p, among the blocks of k pointers.
   pub runs-at : (p k i : ℕ) → p < k → i < pointerCount h (at + 4 * p) → getD (runs h at k) (length (runs h at p) + i) 0 ≡ pointerLbn h (at + 4 * p) + i

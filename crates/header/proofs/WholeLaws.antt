@@ -8,7 +8,7 @@ use native.Mathlib.Decide.{decLt}
 use native.Mathlib.Omega.{arith}
 use borrow.Author.Tests.{eqb-true, leb-true, eq-eqb}
 use lib.Dec.{eqb, leb}
-use lib.ListN.{length, getD}
+use lib.ListN.{length, getD, List·getD-append}
 use lib.Seq.{getD-append-add}
 use Rattle.image.specs.Words.{wordAt}
 use Rattle.image.specs.Sums.{checksum}
@@ -16,7 +16,7 @@ use Rattle.image.proofs.Below.{below-at}
 use Rattle.header.specs.Fields.{hIdof, hMpof, hFnum, hFlev, mapArea, mErvn, mEfnu, mEfsq, mCtsz, mLbsz, mUse, mMax}
 use Rattle.header.specs.Pointers.{pointerLbn, pointerCount, run, runs, pointersAt, pointers, Fits, blocksOf}
 use Rattle.header.specs.Whole.{endsInside, linkTests, mapTests, tests, firstUnmet, fault}
-use Rattle.header.proofs.PointerLaws.{getD-append-left, run-at, runs-none, runs-more, runs-length}
+use Rattle.header.proofs.PointerLaws.{run-at, runs-none, runs-more, runs-length}
 
 -- Each test of "whole for n" as what it says.
 pub record Whole (blocks n : ℕ) (h : List ℕ) : Type 0 where
@@ -93,7 +93,7 @@ runs-below blocks at h (suc k) ends i l =
     go (decLt i (length (runs h at k))) (λ m. runs-below blocks at h k (λ p q. ends p (omega arith)) i m)
   where
     go : Dec (i < length (runs h at k)) → (i < length (runs h at k) → getD (runs h at k) i 0 < blocks) → getD (runs h at (suc k)) i 0 < blocks
-    go (yes m) f = rw (← add-one k, runs-more h at k, getD-append-left (runs h at k) (run h (at + 4 * k)) i m) (f m)
+    go (yes m) f = rw (← add-one k, runs-more h at k, List·getD-append (runs h at k) (run h (at + 4 * k)) 0 i m) (f m)
     go (no m) f =
         let j = i - length (runs h at k) in
         let e : i ≡ length (runs h at k) + j = omega arith in

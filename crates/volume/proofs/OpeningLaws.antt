@@ -15,9 +15,9 @@ use Rattle.image.proofs.Below.{below-at, below-all}
 use Rattle.image.proofs.BlockLaws.{block-length}
 use Rattle.answer.specs.declared.refusal.Refusal.{Refusal}
 use Rattle.answer.specs.declared.refusal.Refusal.the-variants as refusal
-use Rattle.answer.specs.declared.outcome.Outcome.{Outcome}
 use Rattle.answer.specs.declared.outcome.Outcome.the-variants.{Passed, Refused}
 use Rattle.answer.specs.Outcome.{unless, _then_}
+use Rattle.answer.proofs.OutcomeLaws.{refused-not}
 use Rattle.header.specs.Pointers.{pointerLbn, pointerCount, runs, pointersAt, pointers, blocksOf, placeIn}
 use Rattle.header.specs.declared.pointers.Place.{Place}
 use Rattle.header.specs.declared.pointers.Place.the-variants.{At, Past}
@@ -61,28 +61,10 @@ module _ (image : List ℕ) where
       let n = sized-is s in
       block-length image (home image) (omega (arith, n .0, home-inside (n .1) (ltb-true (homeIndex image) (positions (blocks image)) h)))
 
--- Where a row of tests is passed, its first test is met and the rest is passed.
-never-passed : {A : Type 0} (r : Refusal) → Refused r ≡ Passed → A
-never-passed r e = absurd (false≢true (ap isPassed e))
-  where
-    isPassed : Outcome → Bool
-    isPassed Passed = true
-    isPassed (Refused r) = false
-
-pub passed-first : (b : Bool) (r : Refusal) (next : Outcome) → (unless b r then next) ≡ Passed → (b ≡ true) × (next ≡ Passed)
-unfolding unless _then_
-passed-first true r next e = (refl, e)
-passed-first false r next e = never-passed r e
-
-pub passed-last : (b : Bool) (r : Refusal) → unless b r ≡ Passed → b ≡ true
-unfolding unless
-passed-last true r e = refl
-passed-last false r e = never-passed r e
-
 -- A refusal, and what a volume is then said to be.
 pub open-refused : (image : List ℕ) (r : Refusal) (o : OpenVolume) → o .outcome ≡ Refused r → openVolume image ≡ Refused r
     → (o .outcome ≡ openVolume image) × (openVolume image ≡ Passed → o .volume ≡ volumeOf image)
-open-refused image r o e f = (e ∙ sym f, λ p. never-passed r (sym f ∙ p))
+open-refused image r o e f = (e ∙ sym f, λ p. absurd (refused-not r (sym f ∙ p)))
 
 -- What opening answers, by the first test that is not met.
 module _ (image : List ℕ) where

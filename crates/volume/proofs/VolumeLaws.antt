@@ -17,6 +17,7 @@ use Rattle.image.proofs.WordLaws.{word-below}
 use Rattle.image.proofs.BlockLaws.{region-length, block-length, block-bytes}
 use Rattle.answer.specs.declared.refusal.Refusal.the-variants as refusal
 use Rattle.answer.specs.declared.outcome.Outcome.the-variants.{Passed}
+use Rattle.answer.proofs.OutcomeLaws.{passed-last, passed-first}
 use Rattle.header.specs.Fields.{hFseq, mapArea, segment, mEfnu, mUse}
 use Rattle.header.specs.Pointers.{pointerCount, runs, pointersAt, pointers, Fits, blocksOf, placeIn}
 use Rattle.header.specs.declared.pointers.Place.{Place}
@@ -30,7 +31,7 @@ use Rattle.volume.specs.declared.volume.Volume.{Volume}
 use Rattle.volume.specs.declared.volume.Slot.{Slot}
 use Rattle.volume.specs.declared.volume.Slot.the-variants.{At, Missing}
 use Rattle.volume.specs.Opening.{sized, homed, indexMapBlocks, geometry, alone, indexLbn, indexAt, indexMapped, indexed, storageMapped, stored, openVolume, Laid}
-use Rattle.volume.proofs.OpeningLaws.{open-passed, three, sized-is, geometry-is, home-inside, passed-first, passed-last, indexLbn-boot, indexLbn-home, indexLbn-row, storage-long, storage-row}
+use Rattle.volume.proofs.OpeningLaws.{open-passed, three, sized-is, geometry-is, home-inside, indexLbn-boot, indexLbn-home, indexLbn-row, storage-long, storage-row}
 
 -- A header that stands alone: whole, of its number and sequence, segment 0, without extension.
 pub record Alone (total n : ℕ) (h : List ℕ) : Type 0 where

@@ -6,6 +6,7 @@ use native.Mathlib.Omega.{arith}
 use denote.Ref.{now}
 use Rattle.image.specs.Words.{Bytes}
 use Rattle.header.specs.Fields.{segment, mEfnu}
+use Rattle.volume.specs.Volume.{header}
 use Rattle.file.proofs.NumberLaws.{number-fits, segment-most}
 use Rattle.file.proofs.LinkLaws.{LeadsTo, good-links, link-leads}
 use Rattle.file.proofs.SizeLaws.{file-most}
@@ -23,9 +24,10 @@ bytes : (c : tie.After-shared-slice-known Inv-loop μ-loop) → Bytes (now (c .b
 bytes c = record { each = λ i. omega (arith, c .shared-slice-known .given i) }
 
 at : (c : tie.At-loop Inv-loop μ-loop) → let a = c .before .before .before .args in Walk (now (a .image)) (a .n .0) (now (c .loop .h)) (c .loop .count)
+unfolding header
 at c =
     let start = c .before .before .before in
-    c .loop .inv (start .args .n .0) (rw (c .before .header-of .ensures) (walk-start (now (start .args .image)) (start .args .n .0) (start .pre .1)))
+    c .loop .inv (start .args .n .0) (rw (c .before .block .ensures, start .pre .2) (walk-start (now (start .args .image)) (start .args .n .0) (start .pre .1)))
 
 leads : (c : tie.After-link Inv-loop μ-loop)
     → let l = c .before .before .before .before in
@@ -35,19 +37,16 @@ leads c =
     link-leads (now (l .before .before .before .args .image)) (now (l .loop .h)) _ (sym (c .before .before .follow .ensures) ∙ c .link .given .1)
 
 -- The next header's segment number is one higher, and a byte.
-next : (c : tie.After-block Inv-loop μ-loop)
+next : (c : tie.After-block2 Inv-loop μ-loop)
     → let l = c .before .before .before .before .before .before in
-    (segment (now (c .block .result)) ≡ segment (now (l .loop .h)) + 1) × (segment (now (c .block .result)) ≤ 255)
+    (segment (now (c .block2 .result)) ≡ segment (now (l .loop .h)) + 1) × (segment (now (c .block2 .result)) ≤ 255)
 next c =
     let l = c .before .before .before .before .before .before in
     let k = l .before .before in
-    let e = c .block .ensures ∙ leads (c .before .before) .next in
+    let e = c .block2 .ensures ∙ leads (c .before .before) .next in
     let image = now (k .before .args .image) in
     let g = leads (c .before .before) in
     (ap segment e ∙ good-links image (now (l .loop .h)) (g .some) (g .good) .next, rw e (segment-most image (mEfnu (now (l .loop .h))) (bytes k)))
-
-header-of-requires : tie.Need-header-of-requires Inv-loop μ-loop
-header-of-requires c κs = (c .before .pre .0, c .before .pre .1 .0)
 
 loop-holds : tie.Need-loop-holds Inv-loop μ-loop
 loop-holds c n w = walk-same _ _ _ _ _ w (omega arith)
@@ -87,7 +86,7 @@ loop-again c n w =
     let l = b .before in
     let k = l .before .before in
     let g = leads (c .before .before) in
-    rw (c .block .ensures ∙ g .next)
+    rw (c .block2 .ensures ∙ g .next)
     (walk-same _ _ _ _ _ (walk-next (now (k .before .args .image)) n (now (l .loop .h)) (l .loop .count) (l .loop .inv n w) (bytes k) (g .some) (g .good)) (omega (arith, b .block-count .ensures)))
 
 returns-2 : tie.Need-returns-2 Inv-loop μ-loop
@@ -102,5 +101,5 @@ returns-2 c =
 pub chain-blocks-spec : {M : Type 1} → statement M
 chain-blocks-spec =
     tie.close
-    (tie.spec Inv-loop μ-loop header-of-requires loop-holds block-count-requires add-count follow-requires (search needs) returns
+    (tie.spec Inv-loop μ-loop (search needs) loop-holds block-count-requires add-count follow-requires (search needs) returns
     (search needs) (search needs) loop-less loop-again (search needs) returns-2)

@@ -11,7 +11,7 @@ use Rattle.volume.specs.Volume.{header, faultOf}
 use Rattle.volume.proofs.VolumeLaws.{says}
 use Rattle.file.proofs.NumberLaws.{number-length}
 use Rattle.file.proofs.LinkLaws.{Found, slot-found}
-use Rattle.file.proofs.OpeningLaws.{find-relvol, find-number, find-header, find-sequence, find-segment, find-passed}
+use Rattle.file.proofs.OpeningLaws.{finding-at, finding-refused, find-relvol, find-number, find-header, find-sequence, find-segment, find-passed}
 use Rattle.file.proofs.opening.find.Statement.{statement}
 use Rattle.file.proofs.opening.find.Tie as tie
 
@@ -50,7 +50,7 @@ slot-in-use-requires c κs = c .before .before .before .before .pre
 returns : tie.Need-returns
 returns c =
     let a = c .before .before .before .args in
-    sym (find-relvol (now (a .image)) (a .id) (omega arith))
+    finding-refused (now (a .image)) (a .id) _ (find-relvol (now (a .image)) (a .id) (omega arith))
 
 fault-requires : tie.Need-fault-requires
 fault-requires c κs =
@@ -63,7 +63,7 @@ returns-2 c =
     let p = f .before .before .before in
     let e = p .before .before .before .before in
     let a = e .before .before .before .args in
-    rw (tested f) (sym (find-header (now (a .image)) (a .id) (relvol e) (found p .0) (omega (arith, tested f))))
+    rw (tested f) (finding-refused (now (a .image)) (a .id) _ (find-header (now (a .image)) (a .id) (relvol e) (found p .0) (omega (arith, tested f))))
 
 returns-3 : tie.Need-returns-3
 returns-3 c =
@@ -71,7 +71,7 @@ returns-3 c =
     let p = q .before .before .before .before .before in
     let e = p .before .before .before .before in
     let a = e .before .before .before .args in
-    sym (find-sequence (now (a .image)) (a .id) (relvol e) (found p .0) (whole (q .before)) (omega (arith, read q)))
+    finding-refused (now (a .image)) (a .id) _ (find-sequence (now (a .image)) (a .id) (relvol e) (found p .0) (whole (q .before)) (omega (arith, read q)))
 
 returns-4 : tie.Need-returns-4
 returns-4 c =
@@ -81,7 +81,7 @@ returns-4 c =
     let p = b .before .before in
     let e = p .before .before .before .before in
     let a = e .before .before .before .args in
-    sym
+    finding-refused (now (a .image)) (a .id) _
     (find-segment (now (a .image)) (a .id) (relvol e) (found p .0) (whole (q .before)) (omega (arith, t .if3 .left, read q))
     (omega (arith, c .before .segment .ensures, ap segment (named b))))
 
@@ -93,16 +93,17 @@ returns-5 c =
     let p = b .before .before in
     let e = p .before .before .before .before in
     let a = e .before .before .before .args in
-    sym
+    finding-at (now (a .image)) (a .id)
     (find-passed (now (a .image)) (a .id) (relvol e) (found p .0) (whole (q .before)) (omega (arith, t .if3 .left, read q))
     (omega (arith, c .before .segment .ensures, ap segment (named b))))
+    _ (found p .1)
 
 returns-6 : tie.Need-returns-6
 returns-6 c =
     let s = c .before .before in
     let e = s .before .before in
     let a = e .before .before .before .args in
-    sym (find-number (now (a .image)) (a .id) (relvol e) (slot-found (now (a .image)) (a .id .number) _ (sym (s .slot-in-use .ensures) ∙ c .enum-told .given .1)))
+    finding-refused (now (a .image)) (a .id) _ (find-number (now (a .image)) (a .id) (relvol e) (slot-found (now (a .image)) (a .id .number) _ (sym (s .slot-in-use .ensures) ∙ c .enum-told .given .1)))
 
 pub find-spec : {M : Type 1} → statement M
 find-spec =

@@ -3,10 +3,11 @@ use borrow.Author.Needs.{needs}
 use mathlib.Core.Path.{_≡_, sym, _∙_}
 use denote.Ref.{now}
 use Rattle.answer.specs.Outcome.{_then_}
+use Rattle.answer.proofs.OutcomeLaws.{then-passed, then-refused}
 use Rattle.answer.specs.declared.outcome.Outcome.the-variants.{Passed}
 use Rattle.volume.specs.Opening.{openVolume}
 use Rattle.file.specs.Opening.{find, access, chained, openFile}
-use Rattle.file.proofs.OpeningLaws.{then-passed, then-refused, tells-refused}
+use Rattle.file.proofs.OpeningLaws.{tells-refused}
 use Rattle.file.proofs.opening.open.Statement.{statement}
 use Rattle.file.proofs.opening.open.Tie as tie
 
