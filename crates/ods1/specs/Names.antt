@@ -3,10 +3,10 @@ use Prim.Native.Nat.{ℕ}
 use mathlib.Core.List.{List, [], _∷_}
 use Rattle.answer.specs.declared.types.Name.{Name}
 use Rattle.answer.specs.Words.{doneWords, refusedWords}
-use Rattle.radix50.specs.declared.parse.Named.{Named}
-use Rattle.radix50.specs.declared.parse.Named.the-variants as named
-use Rattle.radix50.specs.declared.text.Written.{Written}
-use Rattle.radix50.specs.declared.text.Written.the-variants as written
+use Rattle.text.specs.declared.parse.Named.{Named}
+use Rattle.text.specs.declared.parse.Named.the-variants as named
+use Rattle.text.specs.declared.text.Written.{Written}
+use Rattle.text.specs.declared.text.Written.the-variants as written
 
 -- 01, The work and its edge: "take a name as its five words".
 abbrev pub ofWords : ℕ → ℕ → ℕ → ℕ → ℕ → Name

@@ -2,14 +2,14 @@
 use answer::types::Name;
 use answer::words::put_done;
 use answer::words::put_refused;
-use radix50::Named;
-use radix50::Written;
-use radix50::name_to_text;
-use radix50::text_to_name;
+use text::Named;
+use text::Written;
+use text::name_to_text;
+use text::text_to_name;
 ghost use mathlib.Core.Path.{_≡_};
 ghost use lib.ListN.{length};
-ghost use Rattle.radix50.specs.Text.{nameToText, textAfter};
-ghost use Rattle.radix50.specs.Parse.{textToName};
+ghost use Rattle.text.specs.Text.{nameToText, textAfter};
+ghost use Rattle.text.specs.Parse.{textToName};
 ghost use Rattle.ods1.specs.Names.{ofWords, namedWords, writtenWords};
 
 // The five words of a text `NAME.TYP;V`.

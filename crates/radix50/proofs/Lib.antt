@@ -1,7 +1,3 @@
 pub mod TableLaws
 pub mod NameLaws
-pub mod TextLaws
-pub mod ParseLaws
-pub mod DigitLaws
-pub mod PartLaws
-pub mod RoundTrip
+pub mod ProperLaws

@@ -17,6 +17,11 @@ unfoldable pub filled : List ℕ → Bool
 filled [] = true
 filled (c ∷ cs) = cond (eqb c 0) (blank cs) (isNameChar (charOf c) && filled cs)
 
+-- 01, Names and directories: NAME and TYP are "capitals or digits", without the blanks of the words.
+unfoldable pub kept : List ℕ → List ℕ
+kept [] = []
+kept (c ∷ cs) = cond (eqb c 0) (kept cs) (charOf c ∷ kept cs)
+
 -- 01, Names and directories: "three words". Their nine codes.
 unfoldable pub nameCodes : Name → List ℕ
 nameCodes n = codes (n .name1) ++ (codes (n .name2) ++ codes (n .name3))

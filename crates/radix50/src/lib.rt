@@ -1,16 +1,15 @@
-// Radix-50: the characters, words of three characters, proper names, and names as text.
+// Radix-50: the characters, words of three characters, and proper names.
 mod names;
-mod parse;
-mod round_trip;
 mod table;
-mod text;
 mod words;
 
+pub use names::filled_length;
 pub use names::is_proper;
-pub use parse::Named;
-pub use parse::text_to_name;
-pub use round_trip::conversions_undo_each_other;
-pub use text::Written;
-pub use text::name_to_text;
+pub use names::is_proper_parts;
+pub use names::name_codes;
+pub use table::char_of;
+pub use table::code_of;
+pub use table::is_name_char;
 pub use words::Characters;
+pub use words::codes_of;
 pub use words::word_to_characters;

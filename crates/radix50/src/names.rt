@@ -6,8 +6,7 @@ ghost use mathlib.Core.Path.{_≡_};
 ghost use mathlib.Core.Bool.{cond, _&&_};
 ghost use lib.Dec.{leb};
 ghost use lib.ListN.{length};
-ghost use Rattle.radix50.specs.Names.{blank, filled, nameCodes, proper};
-ghost use Rattle.radix50.specs.Text.{kept};
+ghost use Rattle.radix50.specs.Names.{blank, filled, kept, nameCodes, proper};
 
 // The nine codes of the three name words.
 pub fn name_codes(n: Name) -> [u8; 9]

@@ -9,7 +9,7 @@ use Rattle.image.specs.Stores.{zeros, numbersFrom}
 use Rattle.answer.specs.Outcome.{unless, _then_}
 use Rattle.radix50.specs.Table.{charOf, hasChar, codeOf}
 use Rattle.radix50.specs.Words.{wordOf, charactersOf}
-use Rattle.radix50.specs.Parse.{codeAt, partWord}
+use Rattle.text.specs.Parse.{codeAt, partWord}
 use Rattle.header.specs.Fields.{hIdof, hMpof, hFnum, hFseq, hFlev, userFlags, systemFlags, mapArea, segment, mErvn, mEfnu, mEfsq, mCtsz, mLbsz, mUse, mMax}
 use Rattle.header.specs.Pointers.{pointerLbn, pointerCount, run, runs, pointersAt, pointers, blocksOf}
 use Rattle.header.specs.Whole.{endsInside, linkTests, mapTests, tests, firstUnmet, fault}

@@ -8,7 +8,7 @@ use Rattle.answer.specs.declared.refusal.Refusal.the-variants as refusal
 use Rattle.answer.specs.declared.types.FileId.{FileId}
 use Rattle.radix50.specs.declared.words.Characters.the-variants.{Done, Refused}
 use Rattle.radix50.specs.Words.{charactersOf}
-use Rattle.radix50.specs.Parse.{partWord}
+use Rattle.text.specs.Parse.{partWord}
 use Rattle.volume.specs.Opening.{indexMapBlocks}
 use Rattle.file.specs.declared.mapping.Mapped.the-variants as mapped
 use Rattle.file.specs.Mapping.{mapAnswer}

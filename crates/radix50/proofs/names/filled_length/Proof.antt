@@ -6,8 +6,7 @@ use Prim.Native.Nat.{_+_, _≤_, _-_}
 use denote.Ref.{now}
 use lib.ListN.{length, drop, length-drop}
 use lib.Seq.{take-all}
-use Rattle.radix50.specs.Names.{blank, filled}
-use Rattle.radix50.specs.Text.{kept}
+use Rattle.radix50.specs.Names.{blank, filled, kept}
 use Rattle.radix50.proofs.NameLaws.{blank-kept, filled-blank, filled-on, filled-off, filled-end, kept-on, kept-end}
 use Rattle.radix50.proofs.names.filled_length.Statement.{statement}
 use Rattle.radix50.proofs.names.filled_length.Tie as tie

@@ -1,6 +1,6 @@
 -- A name is proper by the lengths of its parts and its version.
 use borrow.Author.Needs.{needs}
-use Rattle.radix50.proofs.PartLaws.{proper-parts}
+use Rattle.radix50.proofs.ProperLaws.{proper-parts}
 use Rattle.radix50.proofs.names.is_proper.Statement.{statement}
 use Rattle.radix50.proofs.names.is_proper.Tie as tie
 

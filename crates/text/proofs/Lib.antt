@@ -1,0 +1,5 @@
+pub mod TextLaws
+pub mod ParseLaws
+pub mod DigitLaws
+pub mod PartLaws
+pub mod RoundTrip
