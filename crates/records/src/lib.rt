@@ -61,7 +61,8 @@ fn is_filled(b: &[u8], i: u32) -> bool
     word_at(b, 16 * (i as usize)) != 0
 }
 
-// Whether record i of a block is not empty and has this name.
+// Whether record i of a block is not empty and has this name. Most records differ in the version or in the first word of the name, so these are
+// read first.
 fn is_named(b: &[u8], i: u32, name: Name) -> bool
     requires { ⌜ (length (now b) ≡ 512) × (i < 32) ⌝ }
     ensures { λ r. ⌜ r ≡ wantedIn (now (b .entry)) (Named name) i ⌝ }
