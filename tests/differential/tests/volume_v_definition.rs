@@ -1,5 +1,6 @@
-//! The worked cases are proved of Volume V as a definition writes it down, and run on the sample.
-//! This test reads the definition's text and sees that both are the same bytes.
+//! The worked cases are proved of Volume V as a definition writes it down, run by the program
+//! `vectors` on its input, and tested on the sample. This test reads the definition's text and sees
+//! that all three are the same bytes.
 
 use std::collections::HashMap;
 use std::path::Path;
@@ -190,17 +191,29 @@ fn apply(definitions: &HashMap<String, Definition>, name: &str, given: Vec<Value
     }
 }
 
+/// The bytes that the definition writes down.
+fn defined(text: &str) -> Vec<u8> {
+    let volume = apply(&definitions(text), "volumeV", Vec::new()).list();
+    let bytes = volume.into_iter().map(Value::number);
+    bytes
+        .map(|byte| u8::try_from(byte).expect("a byte"))
+        .collect()
+}
+
+/// Where two lists of bytes first differ.
+fn first_difference(one: &[u8], other: &[u8]) -> Option<usize> {
+    let most = one.len().max(other.len());
+    (0..most).find(|&at| one.get(at) != other.get(at))
+}
+
 #[test]
-fn the_definition_and_the_sample_are_the_same_bytes() {
+fn the_definition_the_sample_and_the_input_of_vectors_are_the_same_bytes() {
     let root = Path::new(env!("CARGO_MANIFEST_DIR")).join("../..");
-    let text = std::fs::read_to_string(root.join("crates/volume_v/specs/VolumeV.antt"))
-        .expect("the definition of Volume V");
-    let sample = std::fs::read(root.join("samples/volume-v.dsk")).expect("the sample");
-    let defined = apply(&definitions(&text), "volumeV", Vec::new()).list();
-    let defined: Vec<usize> = defined.into_iter().map(Value::number).collect();
-    let sample: Vec<usize> = sample.into_iter().map(usize::from).collect();
+    let text = std::fs::read_to_string(root.join("crates/volume_v/specs/VolumeV.antt"));
+    let defined = defined(&text.expect("the definition of Volume V"));
     assert_eq!(defined.len(), 51_200);
-    let differs = (0..defined.len()).find(|&i| sample.get(i) != Some(&defined[i]));
-    assert_eq!(differs, None, "the first byte that differs");
-    assert_eq!(sample.len(), defined.len());
+    for place in ["samples/volume-v.dsk", "crates/vectors/stdin"] {
+        let bytes = std::fs::read(root.join(place)).expect(place);
+        assert_eq!(first_difference(&defined, &bytes), None, "{place}");
+    }
 }
