@@ -1,14 +1,14 @@
 -- Laws of a search among the records of some blocks.
 use mathlib.Core.Path.{_≡_, sym, _∙_}
-use mathlib.Core.List.{List, [], _∷_}
+use mathlib.Core.List.{List}
 use Prim.Native.Nat.{ℕ, _+_, _*_, _-_, _/_, _%_, min, _≤_, _<_}
 use native.Mathlib.Decide.{decLt}
 use native.Mathlib.Omega.{arith}
-use native.Mathlib.Nat.{add-zero}
 use lib.ListN.{length, getD}
 use Rattle.image.specs.Stores.{numbersFrom}
 use Rattle.image.proofs.Numbers.{numbersFrom-length, numbersFrom-at}
-use Rattle.image.specs.Blocks.{block}
+use Rattle.image.specs.Blocks.{region}
+use Rattle.image.proofs.BlockLaws.{block-region}
 use Rattle.image.specs.First.{first}
 use Rattle.image.proofs.First.{first-has, first-none, first-found, first-past, first-shift, first-same}
 use Rattle.header.specs.Pointers.{pointerLbn, pointerCount, runs, pointersAt, pointers, blocksOf}
@@ -19,6 +19,7 @@ use Rattle.volume.specs.Volume.{header, faultOf}
 use Rattle.file.specs.Chains.{fileBlocks}
 use Rattle.file.proofs.ChainLaws.{Walk, walk-inside, walk-here}
 use Rattle.records.specs.Records.{wantedIn}
+use Rattle.records.proofs.RecordLaws.{record-block}
 use Rattle.records.specs.declared.Wanted.{Wanted}
 use Rattle.directory.specs.Search.{entryAt, wantedAt, searchIn, Inside}
 
@@ -47,24 +48,18 @@ module _ (image lbns : List ℕ) (w : Wanted) (from to : ℕ) where
       let e : min to (32 * length lbns) ≡ to = omega arith in
       rw e
 
--- One block.
-one-record : (image : List ℕ) (l : ℕ) (w : Wanted) (i : ℕ) → i < 32 → wantedAt image (l ∷ []) w i ≡ wantedIn (block image l) w i
-unfolding wantedAt entryAt wantedIn
-one-record image l w i h =
-    let q : i / 32 ≡ 0 = omega arith in
-    let r : i % 32 ≡ i = omega arith in
-    rw (q, r)
+-- The blocks of a run.
+module _ (image : List ℕ) (lbn count : ℕ) (w : Wanted) where
+  run-record : (i : ℕ) → i < 32 * count → wantedAt image (numbersFrom lbn count) w i ≡ wantedIn (region image lbn count) w i
+  unfolding wantedAt entryAt wantedIn
+  run-record i h =
+      rw (numbersFrom-at lbn count (i / 32) (omega arith), ← block-region image lbn count (i / 32) (omega arith), record-block (region image lbn count) i)
 
-pub search-one : (image : List ℕ) (l : ℕ) (w : Wanted) (from to : ℕ) → searchIn image (l ∷ []) w from to ≡ first (wantedIn (block image l) w) from (min to 32 - from)
-unfolding searchIn
-search-one image l w from to = first-same (wantedAt image (l ∷ []) w) (wantedIn (block image l) w) from (min to 32 - from) (λ i a b. one-record image l w i (omega arith))
-
--- A block of a run.
-pub run-part : (lbn count k : ℕ) → k < count → Part (numbersFrom lbn count) k ((lbn + k) ∷ [])
-run-part lbn count k h = record { inside = omega (arith, numbersFrom-length lbn count); each = λ i l. at i (omega arith) }
-  where
-    at : (i : ℕ) → i ≡ 0 → getD (numbersFrom lbn count) (k + i) 0 ≡ getD ((lbn + k) ∷ []) i 0
-    at i e = rw (e, add-zero k) (numbersFrom-at lbn count k h)
+  pub search-run : (from to : ℕ) → searchIn image (numbersFrom lbn count) w from to ≡ first (wantedIn (region image lbn count) w) from (min to (32 * count) - from)
+  unfolding searchIn
+  search-run from to =
+      rw (numbersFrom-length lbn count)
+      (first-same (wantedAt image (numbersFrom lbn count) w) (wantedIn (region image lbn count) w) from (min to (32 * count) - from) (λ i a b. run-record i (omega arith)))
 
 -- The blocks of a pointer: they stand in the header's, and lie in the image.
 pub pointer-part : (h : List ℕ) (at p n : ℕ) → p < n → Part (runs h at n) (length (runs h at p)) (numbersFrom (pointerLbn h (at + 4 * p)) (pointerCount h (at + 4 * p)))

@@ -1,4 +1,4 @@
-// Searching the records of blocks: of one, of a run, of a header, of a file. Each search takes two places, and looks at the records from the
+// Searching the records of blocks: of a run, of a header, of a file. Each search takes two places, and looks at the records from the
 // first to before the second; blocks before the first are stepped over unread. Places count records from 0, in VBN order. A search answers the
 // place of the first record wanted, or where it ended.
 use answer::types::FileNumber;
@@ -11,14 +11,14 @@ use header::pointers::pointer_count;
 use header::pointers::pointer_lbn;
 use header::pointers::pointer_number;
 use image::blocks::block;
+use image::blocks::region;
 use records::Entry;
 use records::Wanted;
 use records::entry_at;
-use records::first_in_block;
+use records::first_in;
 use volume::volume::Volume;
 ghost use mathlib.Core.Path.{_≡_};
-ghost use mathlib.Core.List.{[], _∷_};
-ghost use Prim.Native.Nat.{_+_, _*_, _^_, min, _≤_, _<_};
+ghost use Prim.Native.Nat.{_+_, _*_, min, _≤_, _<_};
 ghost use lib.ListN.{length};
 ghost use Rattle.image.specs.Stores.{numbersFrom};
 ghost use Rattle.header.specs.Pointers.{Fits, blocksOf};
@@ -33,31 +33,17 @@ fn least(a: u32, b: u32) -> u32
     if a < b { a } else { b }
 }
 
-// One block, by its LBN.
-fn search_block(image: &[u8], lbn: u32, from: u32, to: u32, w: Wanted) -> u32
-    requires { ⌜ (512 * lbn + 512 ≤ length (now image)) × (from < 32) × (from ≤ to) ⌝ }
-    ensures { λ r. ⌜ (r ≡ searchIn (now (image .entry)) (lbn ∷ []) w from to) × (from ≤ r) × (r ≤ to) ⌝ }
-{
-    let b = block(image, lbn);
-    first_in_block(b, from, least(to, 32), w)
-}
-
 // A run of blocks, as one retrieval pointer covers it.
 fn search_run(image: &[u8], lbn: u32, count: u32, from: u32, to: u32, w: Wanted) -> u32
-    requires { ⌜ (512 * (lbn + count) ≤ length (now image)) × (lbn < 2 ^ 24) × (count ≤ 256) × (from ≤ to) ⌝ }
+    requires { ⌜ (512 * (lbn + count) ≤ length (now image)) × (count ≤ 256) × (from ≤ to) ⌝ }
     ensures { λ r. ⌜ (r ≡ searchIn (now (image .entry)) (numbersFrom lbn count) w from to) × (from ≤ r) × (r ≤ to) ⌝ }
 {
-    let mut place = from;
-    while place < 32 * count {
-        let k = place / 32;
-        let start = 32 * k;
-        let r = search_block(image, lbn + k, place - start, to - start, w);
-        if r < 32 {
-            return start + r;
-        }
-        place = start + r;
+    let end = least(to, 32 * count);
+    if end <= from {
+        return from;
     }
-    place
+    let b = region(image, lbn, count);
+    first_in(b, from, end, w)
 }
 
 // The blocks that a header covers.

@@ -1,15 +1,17 @@
--- Laws of a record: its words are words of the block.
+-- Laws of a record: its words are words of the blocks.
 use mathlib.Core.Path.{_≡_, sym, ap, _∙_}
 use mathlib.Core.Bool.{Bool, true, false, not, _&&_, and-false, and-comm}
 use mathlib.Core.List.{List}
-use Prim.Native.Nat.{ℕ, _+_, _*_, _<_}
+use Prim.Native.Nat.{ℕ, _+_, _*_, _/_, _%_, _≤_, _<_}
 use native.Mathlib.Nat.{add-zero}
 use native.Mathlib.Omega.{arith}
 use lib.Dec.{eqb}
-use lib.ListN.{drop}
-use lib.Seq.{getD-take, getD-drop}
+use lib.ListN.{length, drop, length-take, length-drop}
+use lib.Seq.{ext-getD, getD-take, getD-drop}
 use Rattle.image.specs.Words.{byteAt, wordAt}
+use Rattle.image.specs.Blocks.{block}
 use Rattle.image.proofs.WordLaws.{word-same}
+use Rattle.image.proofs.BlockLaws.{byte-block}
 use Rattle.answer.specs.declared.types.Name.{Name}
 use Rattle.records.specs.Records.{recordIn, entryOf, isEmpty, sameName, isWanted, wantedIn}
 use Rattle.records.specs.declared.Wanted.the-variants.{Any, Named}
@@ -21,6 +23,10 @@ last-first false true c d e f = sym (and-false f)
 last-first true true c d e f = and-comm (c && d && e) f
 
 module _ (b : List ℕ) (i : ℕ) where
+  record-most : length (recordIn b i) ≤ 16
+  unfolding recordIn
+  record-most = simp length-take (omega arith)
+
   record-byte : (o : ℕ) → o < 16 → byteAt (recordIn b i) o ≡ byteAt b (16 * i + o)
   unfolding recordIn
   record-byte o h = getD-take 16 (drop (16 * i) b) o 0 h ∙ getD-drop (16 * i) b o 0
@@ -55,3 +61,16 @@ module _ (b : List ℕ) (i : ℕ) where
   named-in n =
       rw entry-in
       (last-first (not (eqb (wordAt b (16 * i)) 0)) (has 6 (n .name1)) (has 8 (n .name2)) (has 10 (n .name3)) (has 12 (n .typ)) (has 14 (n .version)))
+
+-- A block holds 32 records: record i lies in block i / 32.
+pub record-block : (b : List ℕ) (i : ℕ) → recordIn (block b (i / 32)) (i % 32) ≡ recordIn b i
+unfolding recordIn block
+record-block b i =
+    ext-getD 0 (recordIn (block b (i / 32)) (i % 32)) (recordIn b i)
+    (simp (length-take, length-drop) (omega arith))
+    (λ j l.
+    let small : j < 16 = omega (arith, record-most (block b (i / 32)) (i % 32)) in
+    record-byte (block b (i / 32)) (i % 32) j small
+    ∙ byte-block b (i / 32) (16 * (i % 32) + j) (omega arith)
+    ∙ ap (byteAt b) (omega arith)
+    ∙ sym (record-byte b i j small))

@@ -1,4 +1,4 @@
--- The records of a directory, in one block.
+-- The records of a directory, in blocks that lie one behind the other.
 use mathlib.Core.Bool.{Bool, not, _&&_}
 use mathlib.Core.List.{List}
 use Prim.Native.Nat.{ℕ, _*_}
@@ -10,7 +10,7 @@ use Rattle.records.specs.declared.Entry.{Entry}
 use Rattle.records.specs.declared.Wanted.{Wanted}
 use Rattle.records.specs.declared.Wanted.the-variants.{Any, Named}
 
--- 01, Names and directories: "A directory record has 16 bytes: ID (3 words), name (3), type, version." Record i, from 0, of a block.
+-- 01, Names and directories: "A directory record has 16 bytes: ID (3 words), name (3), type, version." Record i, from 0.
 unfoldable pub recordIn : List ℕ → ℕ → List ℕ
 recordIn b i = take 16 (drop (16 * i) b)
 
@@ -39,6 +39,6 @@ unfoldable pub isWanted : Wanted → Entry → Bool
 isWanted Any e = not (isEmpty e)
 isWanted (Named n) e = not (isEmpty e) && sameName (e .name) n
 
--- The test of a search, at record i of a block.
+-- The test of a search, at record i.
 unfoldable pub wantedIn : List ℕ → Wanted → ℕ → Bool
 wantedIn b w i = isWanted w (entryOf (recordIn b i))

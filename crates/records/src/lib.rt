@@ -1,9 +1,9 @@
-// The records of a directory, in one block.
+// The records of a directory, in blocks that lie one behind the other.
 use answer::types::FileId;
 use answer::types::Name;
 use image::words::word_at;
 ghost use mathlib.Core.Path.{_≡_};
-ghost use Prim.Native.Nat.{_-_, _≤_, _<_};
+ghost use Prim.Native.Nat.{_+_, _*_, _-_, _≤_};
 ghost use lib.ListN.{length};
 ghost use Rattle.image.specs.First.{first};
 ghost use Rattle.records.specs.Records.{recordIn, entryOf, wantedIn};
@@ -23,9 +23,9 @@ pub enum Wanted {
     Named(Name),
 }
 
-// The entry in record i of a block.
+// The entry in record i.
 pub fn entry_at(b: &[u8], i: u32) -> Entry
-    requires { ⌜ (length (now b) ≡ 512) × (i < 32) ⌝ }
+    requires { ⌜ 16 * i + 16 ≤ length (now b) ⌝ }
     ensures { λ r. ⌜ r ≡ entryOf (recordIn (now (b .entry)) i) ⌝ }
 {
     let at = 16 * (i as usize);
@@ -53,18 +53,17 @@ pub fn entry_at(b: &[u8], i: u32) -> Entry
     }
 }
 
-// Whether record i of a block is not empty.
+// Whether record i is not empty.
 fn is_filled(b: &[u8], i: u32) -> bool
-    requires { ⌜ (length (now b) ≡ 512) × (i < 32) ⌝ }
+    requires { ⌜ 16 * i + 16 ≤ length (now b) ⌝ }
     ensures { λ r. ⌜ r ≡ wantedIn (now (b .entry)) Any i ⌝ }
 {
     word_at(b, 16 * (i as usize)) != 0
 }
 
-// Whether record i of a block is not empty and has this name. Most records differ in the version or in the first word of the name, so these are
-// read first.
+// Whether record i is not empty and has this name. Most records differ in the version or in the first word of the name, so these are read first.
 fn is_named(b: &[u8], i: u32, name: Name) -> bool
-    requires { ⌜ (length (now b) ≡ 512) × (i < 32) ⌝ }
+    requires { ⌜ 16 * i + 16 ≤ length (now b) ⌝ }
     ensures { λ r. ⌜ r ≡ wantedIn (now (b .entry)) (Named name) i ⌝ }
 {
     let at = 16 * (i as usize);
@@ -80,9 +79,9 @@ fn is_named(b: &[u8], i: u32, name: Name) -> bool
         & (word_at(b, at + 12) == name.typ)
 }
 
-// Of the records of a block from one place to before another, the first that is not empty; the second place where none is.
+// Of the records from one place to before another, the first that is not empty; the second place where none is.
 fn first_filled(b: &[u8], from: u32, to: u32) -> u32
-    requires { ⌜ (length (now b) ≡ 512) × (from ≤ to) × (to ≤ 32) ⌝ }
+    requires { ⌜ (from ≤ to) × (16 * to ≤ length (now b)) ⌝ }
     ensures { λ r. ⌜ r ≡ first (wantedIn (now (b .entry)) Any) from (to - from) ⌝ }
 {
     let mut i = from;
@@ -98,7 +97,7 @@ fn first_filled(b: &[u8], from: u32, to: u32) -> u32
 
 // The same, for a record that is not empty and has this name.
 fn first_named(b: &[u8], from: u32, to: u32, name: Name) -> u32
-    requires { ⌜ (length (now b) ≡ 512) × (from ≤ to) × (to ≤ 32) ⌝ }
+    requires { ⌜ (from ≤ to) × (16 * to ≤ length (now b)) ⌝ }
     ensures { λ r. ⌜ r ≡ first (wantedIn (now (b .entry)) (Named name)) from (to - from) ⌝ }
 {
     let mut i = from;
@@ -113,8 +112,8 @@ fn first_named(b: &[u8], from: u32, to: u32, name: Name) -> u32
 }
 
 // The same, for a record that is wanted.
-pub fn first_in_block(b: &[u8], from: u32, to: u32, w: Wanted) -> u32
-    requires { ⌜ (length (now b) ≡ 512) × (from ≤ to) × (to ≤ 32) ⌝ }
+pub fn first_in(b: &[u8], from: u32, to: u32, w: Wanted) -> u32
+    requires { ⌜ (from ≤ to) × (16 * to ≤ length (now b)) ⌝ }
     ensures { λ r. ⌜ r ≡ first (wantedIn (now (b .entry)) w) from (to - from) ⌝ }
 {
     match w {

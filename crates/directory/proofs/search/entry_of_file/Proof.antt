@@ -1,8 +1,10 @@
 -- Record r is record r % 32 of block r / 32.
 use borrow.Author.Needs.{needs}
+use mathlib.Core.Path.{_≡_}
 use Prim.Native.Nat.{_/_, _%_}
 use native.Mathlib.Omega.{arith}
 use denote.Ref.{now}
+use lib.ListN.{length}
 use Rattle.image.specs.Blocks.{block}
 use Rattle.image.proofs.BlockLaws.{block-length}
 use Rattle.directory.specs.Search.{entryAt}
@@ -20,7 +22,8 @@ entry-at-requires : tie.Need-entry-at-requires
 entry-at-requires c κs =
     let k = c .before .before .before in
     let inside = block-inside (now (k .args .image)) (k .args .v) (k .args .n .0) (k .pre .0) (k .args .r / 32) (omega arith) in
-    (rw (c .block .ensures) (block-length (now (k .args .image)) (c .before .lbn-at .result .0) (omega (arith, inside, c .before .lbn-at .ensures))), search needs)
+    let long : length (now (c .block .result)) ≡ 512 = rw (c .block .ensures) (block-length (now (k .args .image)) (c .before .lbn-at .result .0) (omega (arith, inside, c .before .lbn-at .ensures))) in
+    omega (arith, long)
 
 returns : tie.Need-returns
 unfolding entryOfFile entryAt

@@ -50,7 +50,7 @@ search-run-requires c κs =
     let l = c .before .before .before in
     let a = l .before .before .before .before .before .args in
     let inside = pointer-inside (now (a .image)) (now (a .h)) (l .before .before .first-pointer .result) (l .loop .p) (l .before .before .before .before .before .pre .1) (l .before .before .first-pointer .ensures .0) (omega arith) in
-    (omega (arith, inside), search needs, search needs, search needs)
+    (omega (arith, inside), search needs, search needs)
 
 returns : tie.Need-returns Inv-loop μ-loop
 returns c =

@@ -1,56 +1,37 @@
--- No record before the place is wanted; each turn searches the block that the place lies in.
+-- The blocks of the run lie one behind the other; past their last record nothing is searched.
 use borrow.Author.Needs.{needs}
-use mathlib.Core.Path.{_≡_, refl, sym, _∙_}
-use mathlib.Core.List.{[], _∷_}
-use Prim.Native.Nat.{_+_, _*_, _-_, _/_, _≤_}
+use mathlib.Core.Path.{_≡_, sym}
+use Prim.Native.Nat.{_*_, min}
 use native.Mathlib.Omega.{arith}
 use denote.Ref.{now}
+use lib.ListN.{length}
 use Rattle.image.specs.Stores.{numbersFrom}
 use Rattle.image.proofs.Numbers.{numbersFrom-length}
-use Rattle.directory.specs.Search.{searchIn}
-use Rattle.directory.proofs.SearchLaws.{Turn, run-part, search-turn, search-none, search-range}
+use Rattle.image.proofs.BlockLaws.{region-length}
+use Rattle.directory.proofs.SearchLaws.{search-run, search-none, search-range}
 use Rattle.directory.proofs.search.search_run.Statement.{statement}
 use Rattle.directory.proofs.search.search_run.Tie as tie
 
-abbrev Inv-loop : tie.InvT-loop
-Inv-loop image lbn count from to w place₀ place =
-    (from ≤ place) × (place ≤ to) × (searchIn image (numbersFrom lbn count) w from to ≡ searchIn image (numbersFrom lbn count) w place to)
-
-abbrev μ-loop : tie.MeasureT-loop
-μ-loop image lbn count from to w place₀ place = 32 * count - place
-
-turn : (c : tie.After-search-block Inv-loop μ-loop) →
-    let l = c .before .before in
-    let a = l .before .before .args in
-    Turn (now (a .image)) (numbersFrom (a .lbn) (a .count)) (a .w) (l .loop .place) (a .to) (32 * (l .loop .place / 32)) 1 (c .search-block .result)
-turn c =
-    let l = c .before .before in
-    let a = l .before .before .args in
-    let k = l .loop .place / 32 in
-    let part = run-part (a .lbn) (a .count) k (omega arith) in
-    search-turn _ _ k ((a .lbn + k) ∷ []) part _ _ _ _ _ refl (omega arith) (c .search-block .ensures .0) 1 refl
-
-loop-holds : tie.Need-loop-holds Inv-loop μ-loop
-loop-holds c = (search needs, search needs, refl)
-
-returns : tie.Need-returns Inv-loop μ-loop
+returns : tie.Need-returns
 returns c =
-    let l = c .before .before .before in
-    let a = l .before .before .args in
-    search-range _ (numbersFrom (a .lbn) (a .count)) _ _ _ (omega arith) _ (sym (l .loop .inv .2 ∙ turn (c .before) .here (omega arith)))
+    let a = c .before .before .before .args in
+    let none = search-none (now (a .image)) (numbersFrom (a .lbn) (a .count)) (a .w) (a .from) (a .to) (omega (arith, numbersFrom-length (a .lbn) (a .count))) in
+    search-range _ _ _ _ _ (omega arith) _ (sym none)
 
-loop-again : tie.Need-loop-again Inv-loop μ-loop
-loop-again c = (search needs, search needs, c .before .before .before .loop .inv .2 ∙ turn (c .before) .on (omega arith))
+first-in-requires : tie.Need-first-in-requires
+first-in-requires c κs =
+    let a = c .before .before .before .before .args in
+    let long : length (now (c .region .result)) ≡ 512 * a .count = rw (c .region .ensures) (region-length (now (a .image)) (a .lbn) (a .count) (omega arith)) in
+    (search needs, omega (arith, long))
 
-returns-2 : tie.Need-returns-2 Inv-loop μ-loop
+returns-2 : tie.Need-returns-2
 returns-2 c =
-    let l = c .before in
-    let a = l .before .before .args in
-    let none = search-none (now (a .image)) (numbersFrom (a .lbn) (a .count)) (a .w) (l .loop .place) (a .to) (omega (arith, numbersFrom-length (a .lbn) (a .count))) in
-    search-range _ _ _ _ _ (omega arith) _ (sym (l .loop .inv .2 ∙ none))
+    let r = c .before in
+    let a = r .before .before .before .before .args in
+    let e : r .before .before .least .result ≡ min (a .to) (32 * a .count) = omega arith in
+    search-range _ _ _ _ _ (omega arith) _
+    (rw (search-run (now (a .image)) (a .lbn) (a .count) (a .w) (a .from) (a .to), ← r .region .ensures, ← e) (c .first-in .ensures))
 
 pub search-run-spec : {M : Type 1} → statement M
 search-run-spec =
-    tie.close
-    (tie.spec Inv-loop μ-loop loop-holds (search needs) (search needs) (search needs) (search needs) (search needs) (search needs) (search needs)
-    returns (search needs) (search needs) loop-again returns-2)
+    tie.close (tie.spec (search needs) (search needs) returns (search needs) first-in-requires returns-2)
