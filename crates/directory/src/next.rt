@@ -6,13 +6,14 @@ use answer::outcome::Outcome;
 use answer::refusal::Refusal;
 use answer::types::FileId;
 use answer::types::FileNumber;
+use answer::types::Lbn;
 use file::opening::open;
 use records::Entry;
 use records::Wanted;
 use volume::volume::Volume;
 ghost use mathlib.Core.Path.{_≡_};
 ghost use Rattle.answer.specs.declared.outcome.Outcome.the-variants.{Passed};
-ghost use Rattle.volume.specs.Volume.{volumeOf};
+ghost use Rattle.volume.specs.Volume.{slot, volumeOf};
 ghost use Rattle.file.specs.Opening.{openFile};
 ghost use Rattle.directory.specs.Search.{recordCount};
 ghost use Rattle.directory.specs.LookUp.{nextRecord};
@@ -25,19 +26,19 @@ pub enum Stepped {
 }
 
 // A step in a directory that opens, of so many records: ABSENT.
-fn next_opened(image: &[u8], v: Volume, id: FileId, count: u32, place: u32) -> Stepped
-    requires { ⌜ (openFile (now image) id ≡ Passed) × (v ≡ volumeOf (now image)) × (count ≡ recordCount (now image) (id .number)) ⌝ }
+fn next_opened(image: &[u8], v: Volume, id: FileId, lbn: Lbn, count: u32, place: u32) -> Stepped
+    requires { ⌜ (openFile (now image) id ≡ Passed) × (v ≡ volumeOf (now image)) × (count ≡ recordCount (now image) (id .number)) × (lbn .0 ≡ slot (now image) (id .number)) ⌝ }
     ensures { λ r. ⌜ r ≡ nextRecord (now (image .entry)) id place ⌝ }
 {
     if count <= place {
         return Stepped::Refused(Refusal::Absent);
     }
     let n = id.number as u32;
-    let r = search_file(image, v, FileNumber(n), place, count, Wanted::Any);
+    let r = search_file(image, v, FileNumber(n), lbn, place, count, Wanted::Any);
     if count <= r {
         return Stepped::Refused(Refusal::Absent);
     }
-    let e = entry_of_file(image, v, FileNumber(n), r);
+    let e = entry_of_file(image, v, FileNumber(n), lbn, r);
     Stepped::Done(e, r + 1)
 }
 
@@ -48,7 +49,14 @@ pub fn next_record(image: &[u8], id: FileId, place: u32) -> Stepped
     let file = open(image, id);
     let outcome = file.outcome;
     match outcome {
-        Outcome::Passed => next_opened(image, file.volume, id, record_count(file.blocks), place),
+        Outcome::Passed => next_opened(
+            image,
+            file.volume,
+            id,
+            file.header,
+            record_count(file.blocks),
+            place,
+        ),
         Outcome::Refused(_) => Stepped::Refused(Refusal::Absent),
     }
 }

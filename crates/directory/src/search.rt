@@ -2,6 +2,7 @@
 // first to before the second; blocks before the first are stepped over unread. Places count records from 0, in VBN order. A search answers the
 // place of the first record wanted, or where it ended.
 use answer::types::FileNumber;
+use answer::types::Lbn;
 use file::chains::header_of;
 use file::chains::lbn_at;
 use header::fields::m_efnu;
@@ -22,6 +23,7 @@ ghost use Prim.Native.Nat.{_+_, _*_, min, _≤_, _<_};
 ghost use lib.ListN.{length};
 ghost use Rattle.image.specs.Stores.{numbersFrom};
 ghost use Rattle.header.specs.Pointers.{Fits, blocksOf};
+ghost use Rattle.volume.specs.Volume.{slot};
 ghost use Rattle.file.specs.Chains.{fileBlocks};
 ghost use Rattle.directory.specs.LookUp.{entryOfFile};
 ghost use Rattle.directory.specs.Search.{searchIn, Inside, FileOpen};
@@ -70,20 +72,20 @@ fn search_header(image: &[u8], h: &[u8], from: u32, to: u32, w: Wanted) -> u32
     place
 }
 
-// The blocks of the file whose first header has a number.
+// The blocks of the file whose first header has a number and lies at an LBN.
 pub(crate) fn search_file(
     image: &[u8],
     v: Volume,
     n: FileNumber,
+    lbn: Lbn,
     from: u32,
     to: u32,
     w: Wanted,
 ) -> u32
-    requires { ⌜ FileOpen (now image) v (n .0) × (from ≤ to) ⌝ }
+    requires { ⌜ FileOpen (now image) v (n .0) × (from ≤ to) × (lbn .0 ≡ slot (now image) (n .0)) ⌝ }
     ensures { λ r. ⌜ (r ≡ searchIn (now (image .entry)) (fileBlocks (now (image .entry)) (n .0)) w from to) × (from ≤ r) × (r ≤ to) ⌝ }
 {
-    let number = n.0;
-    let mut h = header_of(image, v, FileNumber(number));
+    let mut h = block(image, lbn.0);
     let mut place = from;
     let mut start: u32 = 0;
     loop {
@@ -110,12 +112,12 @@ pub(crate) fn record_count(blocks: u32) -> u32
     32 * blocks
 }
 
-// The entry in record r of the file whose first header has a number.
-pub(crate) fn entry_of_file(image: &[u8], v: Volume, n: FileNumber, r: u32) -> Entry
-    requires { ⌜ FileOpen (now image) v (n .0) × (r < 32 * length (fileBlocks (now image) (n .0))) ⌝ }
+// The entry in record r of the file whose first header has a number and lies at an LBN.
+pub(crate) fn entry_of_file(image: &[u8], v: Volume, n: FileNumber, lbn: Lbn, r: u32) -> Entry
+    requires { ⌜ FileOpen (now image) v (n .0) × (r < 32 * length (fileBlocks (now image) (n .0))) × (lbn .0 ≡ slot (now image) (n .0)) ⌝ }
     ensures { λ e. ⌜ e ≡ entryOfFile (now (image .entry)) (n .0) r ⌝ }
 {
-    let lbn = lbn_at(image, v, n, r / 32);
-    let b = block(image, lbn.0);
+    let place = lbn_at(image, v, n, lbn, r / 32);
+    let b = block(image, place.0);
     entry_at(b, r % 32)
 }

@@ -130,18 +130,18 @@ pub fn chain_blocks(image: &[u8], v: Volume, n: FileNumber, lbn: Lbn) -> Chain
     }
 }
 
-// The LBN of block i, from 0, of the file whose first header has number n, where each link of its chain is good.
-pub fn lbn_at(image: &[u8], v: Volume, n: FileNumber, i: u32) -> Lbn
-    requires { ⌜ Open (now image) v × IsFirst (now image) (n .0) × (goodChain (now image) (n .0) ≡ true) × (i < length (fileBlocks (now image) (n .0))) ⌝ }
+// The LBN of block i, from 0, of the file whose first header has number n and lies at this LBN, where each link of its chain is good.
+pub fn lbn_at(image: &[u8], v: Volume, n: FileNumber, lbn: Lbn, i: u32) -> Lbn
+    requires { ⌜ Open (now image) v × IsFirst (now image) (n .0) × (goodChain (now image) (n .0) ≡ true) × (i < length (fileBlocks (now image) (n .0))) × (lbn .0 ≡ slot (now image) (n .0)) ⌝ }
     ensures { λ r. ⌜ r .0 ≡ getD (fileBlocks (now (image .entry)) (n .0)) i 0 ⌝ }
 {
-    let mut h = header_of(image, v, n);
+    let mut h = block(image, lbn.0);
     let mut left = i;
     loop {
         let place = place_of(h, left);
         match place {
-            Place::At(lbn) => {
-                return lbn;
+            Place::At(found) => {
+                return found;
             }
             Place::Past(past) => {
                 left = past;

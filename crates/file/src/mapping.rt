@@ -31,7 +31,13 @@ pub fn map(image: &[u8], id: FileId, vbn: Vbn) -> Mapped
             if file.blocks < place {
                 return Mapped::Refused(Refusal::Vbn);
             }
-            Mapped::Done(lbn_at(image, file.volume, FileNumber(id.number as u32), place - 1))
+            Mapped::Done(lbn_at(
+                image,
+                file.volume,
+                FileNumber(id.number as u32),
+                file.header,
+                place - 1,
+            ))
         }
         Outcome::Refused(r) => Mapped::Refused(r),
     }

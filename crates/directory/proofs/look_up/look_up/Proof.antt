@@ -12,7 +12,7 @@ look-up-opened-requires c κs =
     let o = c .before .before .before in
     let a = o .before .before .args in
     let passed = sym (o .«open» .ensures .0) ∙ c .before .enum-told .given .1 in
-    (passed, o .«open» .ensures .1 passed .0, omega (arith, o .«open» .ensures .1 passed .1, records-count (now (a .image)) (a .id .number)))
+    (passed, o .«open» .ensures .1 passed .0, omega (arith, o .«open» .ensures .1 passed .1, records-count (now (a .image)) (a .id .number)), o .«open» .ensures .1 passed .2)
 
 returns : tie.Need-returns
 returns c = c .look-up-opened .ensures

@@ -29,7 +29,7 @@ found c =
     search-wanted (now (a .image)) (a .id .number) (Named (a .name)) 0 (a .count) (c .search-file .result) (k .pre .2) (c .search-file .ensures .0)
 
 search-file-requires : tie.Need-search-file-requires
-search-file-requires c κs = (opened (c .before .before .before .before), search needs)
+search-file-requires c κs = (opened (c .before .before .before .before), search needs, c .before .before .before .before .pre .3)
 
 returns : tie.Need-returns
 returns c =
@@ -40,7 +40,7 @@ returns c =
 entry-of-file-requires : tie.Need-entry-of-file-requires
 entry-of-file-requires c κs =
     let k = c .before .before .before .before .before .before in
-    (opened k, omega (arith, k .pre .2, records-inside (now (k .args .image)) (k .args .id .number)))
+    (opened k, omega (arith, k .pre .2, records-inside (now (k .args .image)) (k .args .id .number)), k .pre .3)
 
 returns-2 : tie.Need-returns-2
 returns-2 c =

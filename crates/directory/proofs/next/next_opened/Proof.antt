@@ -28,7 +28,7 @@ returns c =
     sym (next-absent (now (a .image)) (a .id) (a .place) (k .pre .0) (omega (arith, k .pre .2, wanted-past (now (a .image)) (a .id .number) Any (a .place) (omega (arith, k .pre .2)))))
 
 search-file-requires : tie.Need-search-file-requires
-search-file-requires c κs = (opened (c .before .before .before), search needs)
+search-file-requires c κs = (opened (c .before .before .before), search needs, c .before .before .before .pre .3)
 
 returns-2 : tie.Need-returns-2
 returns-2 c =
@@ -39,7 +39,7 @@ returns-2 c =
 entry-of-file-requires : tie.Need-entry-of-file-requires
 entry-of-file-requires c κs =
     let k = c .before .before .before .before .before in
-    (opened k, omega (arith, k .pre .2, records-inside (now (k .args .image)) (k .args .id .number)))
+    (opened k, omega (arith, k .pre .2, records-inside (now (k .args .image)) (k .args .id .number)), k .pre .3)
 
 returns-3 : tie.Need-returns-3
 returns-3 c =

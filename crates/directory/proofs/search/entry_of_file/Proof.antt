@@ -16,7 +16,7 @@ use Rattle.directory.proofs.search.entry_of_file.Tie as tie
 lbn-at-requires : tie.Need-lbn-at-requires
 lbn-at-requires c κs =
     let k = c .before in
-    (k .pre .0 .0, k .pre .0 .1, k .pre .0 .2, omega arith)
+    (k .pre .0 .0, k .pre .0 .1, k .pre .0 .2, omega arith, k .pre .2)
 
 entry-at-requires : tie.Need-entry-at-requires
 entry-at-requires c κs =

@@ -29,9 +29,10 @@ bytes : (c : tie.After-shared-slice-known Inv-loop μ-loop) → Bytes (now (c .b
 bytes c = record { each = λ k. omega (arith, c .shared-slice-known .given k) }
 
 at : (c : tie.At-loop Inv-loop μ-loop) → let a = c .before .before .before .args in Walk (now (a .image)) (a .n .0) (now (c .loop .h)) (a .i - c .loop .left)
+unfolding header
 at c =
     let start = c .before .before .before in
-    c .loop .inv .1 (start .args .n .0) (rw (c .before .header-of .ensures) (walk-start (now (start .args .image)) (start .args .n .0) (start .pre .1)))
+    c .loop .inv .1 (start .args .n .0) (rw (c .before .block .ensures, start .pre .4) (walk-start (now (start .args .image)) (start .args .n .0) (start .pre .1)))
 
 -- The place lies past the header's blocks, so the header has a good link.
 past : (c : tie.After-place2 Inv-loop μ-loop) → let l = c .before .before .before in PlacedAt (blocksOf (now (l .loop .h))) (l .loop .left) (Past (c .place2 .given .0 .0))
@@ -56,9 +57,6 @@ linked c =
     let l = c .before .before .before in
     good-links (now (l .before .before .before .args .image)) (now (l .loop .h)) (some c) (good c)
 
-header-of-requires : tie.Need-header-of-requires Inv-loop μ-loop
-header-of-requires c κs = (c .before .pre .0, c .before .pre .1 .0)
-
 loop-holds : tie.Need-loop-holds Inv-loop μ-loop
 loop-holds c = (omega arith, λ n w. walk-same _ _ _ _ _ w (omega arith))
 
@@ -82,17 +80,17 @@ returns c =
       ap (λ (k : ℕ). getD (fileBlocks (now (a .image)) (a .n .0)) k 0) e,
     )
 
-header-of-requires-2 : tie.Need-header-of-requires-2 Inv-loop μ-loop
-header-of-requires-2 c κs =
+header-of-requires : tie.Need-header-of-requires Inv-loop μ-loop
+header-of-requires c κs =
     let p = c .before .before in
     (p .before .before .before .before .before .before .pre .0, rw (c .m-efnu .ensures) (linked p .number))
 
-next : (c : tie.After-header-of2 Inv-loop μ-loop)
+next : (c : tie.After-header-of Inv-loop μ-loop)
     → let l = c .before .before .before .before .before .before in
-    now (c .header-of2 .result) ≡ header (now (l .before .before .before .args .image)) (mEfnu (now (l .loop .h)))
+    now (c .header-of .result) ≡ header (now (l .before .before .before .args .image)) (mEfnu (now (l .loop .h)))
 next c =
     let l = c .before .before .before .before .before .before in
-    c .header-of2 .ensures ∙ ap (header (now (l .before .before .before .args .image))) (c .before .m-efnu .ensures)
+    c .header-of .ensures ∙ ap (header (now (l .before .before .before .args .image))) (c .before .m-efnu .ensures)
 
 loop-less : tie.Need-loop-less Inv-loop μ-loop
 loop-less c =
@@ -118,5 +116,5 @@ loop-again c =
 pub lbn-at-spec : {M : Type 1} → statement M
 lbn-at-spec =
     tie.close
-    (tie.spec Inv-loop μ-loop header-of-requires loop-holds place-of-requires (search needs) returns (search needs) (search needs)
-    (search needs) header-of-requires-2 loop-less loop-again)
+    (tie.spec Inv-loop μ-loop (search needs) loop-holds place-of-requires (search needs) returns (search needs) (search needs)
+    (search needs) header-of-requires loop-less loop-again)

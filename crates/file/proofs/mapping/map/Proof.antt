@@ -31,7 +31,7 @@ lbn-at-requires c κs =
     let a = t .before .before .before .before .args in
     let o = opened (now (a .image)) (a .id) (passed t) in
     let told = t .before .before .open .ensures .1 (passed t) in
-    ((o .volume, told .0), o .found .first, o .chain, omega (arith, told .1))
+    ((o .volume, told .0), o .found .first, o .chain, omega (arith, told .1), told .2)
 
 returns-3 : tie.Need-returns-3
 returns-3 c =
