@@ -62,11 +62,11 @@ fn is_filled(b: &[u8], i: u32) -> bool
 }
 
 // Whether record i is not empty and has this name. Most records differ in the version or in the first word of the name, so these are read first.
-fn is_named(b: &[u8], i: u32, name: Name) -> bool
+fn is_named(b: &[u8], i: usize, name: Name) -> bool
     requires { ⌜ 16 * i + 16 ≤ length (now b) ⌝ }
     ensures { λ r. ⌜ r ≡ wantedIn (now (b .entry)) (Named name) i ⌝ }
 {
-    let at = 16 * (i as usize);
+    let at = 16 * i;
     if word_at(b, at + 14) != name.version {
         return false;
     }
@@ -95,20 +95,21 @@ fn first_filled(b: &[u8], from: u32, to: u32) -> u32
     i
 }
 
-// The same, for a record that is not empty and has this name.
+// The same, for a record that is not empty and has this name. The records left are counted down, which makes the shortest loop.
 fn first_named(b: &[u8], from: u32, to: u32, name: Name) -> u32
     requires { ⌜ (from ≤ to) × (16 * to ≤ length (now b)) ⌝ }
     ensures { λ r. ⌜ r ≡ first (wantedIn (now (b .entry)) (Named name)) from (to - from) ⌝ }
 {
-    let mut i = from;
-    while i < to {
-        let named = is_named(b, i, name);
+    let end = to as usize;
+    let mut left = end - (from as usize);
+    while 0 < left {
+        let named = is_named(b, end - left, name);
         if named {
-            return i;
+            return (end - left) as u32;
         }
-        i += 1;
+        left -= 1;
     }
-    i
+    to
 }
 
 // The same, for a record that is wanted.
