@@ -1,0 +1,47 @@
+-- The blocks that headers in use cover; TWICE and MAP.
+use mathlib.Core.Bool.{Bool, not, _&&_}
+use mathlib.Core.List.{List}
+use Prim.Native.Nat.{ℕ, _+_, _*_}
+use lib.Dec.{eqb, leb, ltb}
+use Rattle.image.specs.Bits.{bitAt}
+use Rattle.image.specs.First.{first}
+use Rattle.answer.specs.declared.refusal.Refusal.the-variants as refusal
+use Rattle.answer.specs.declared.outcome.Outcome.{Outcome}
+use Rattle.answer.specs.Outcome.{unless}
+use Rattle.header.specs.Pointers.{blocksOf}
+use Rattle.volume.specs.Home.{blocks}
+use Rattle.volume.specs.Volume.{fmax, mapBlocks, storageMap}
+use Rattle.marks.specs.Counts.{oneIf, count}
+use Rattle.slots.specs.Slots.{gathered}
+
+-- The LBNs that the headers in use cover, each as often as it is covered. 01, Demand 3: "A block is mapped where it is covered by a pointer of a
+-- header in use." The slot of an extension header is a block of file 1 and of no other, so it stands here once.
+unfoldable pub covered : List ℕ → List ℕ
+covered image = gathered image blocksOf (fmax image)
+
+-- 01, The verdict: "TWICE: LBN covered by two places in pointers of headers in use." The list is that of all covered LBNs.
+unfoldable pub coveredTwice : List ℕ → ℕ → Bool
+coveredTwice lbns j = leb 2 (count j lbns)
+
+-- The lowest offender; N where there is none.
+unfoldable pub twicePlace : List ℕ → ℕ
+twicePlace image = first (coveredTwice (covered image)) 0 (blocks image)
+
+unfoldable pub twice : List ℕ → Outcome
+twice image = unless (eqb (twicePlace image) (blocks image)) (refusal.Twice (twicePlace image))
+
+-- How many bits the storage map of a volume of n blocks has.
+unfoldable pub mapBits : ℕ → ℕ
+mapBits n = 4096 * mapBlocks n
+
+-- 01, The verdict: "MAP: a map bit wrong, its bit number the place: below N set exactly if covered by none, from N on clear." Bit j of this map, with
+-- these covered LBNs, on a volume of n blocks.
+unfoldable pub wrongBit : List ℕ → List ℕ → ℕ → ℕ → Bool
+wrongBit map lbns n j = not (eqb (bitAt map j) (oneIf (ltb j n && eqb (count j lbns) 0)))
+
+-- The lowest offender; the number of bits where there is none.
+unfoldable pub mapPlace : List ℕ → ℕ
+mapPlace image = first (wrongBit (storageMap image) (covered image) (blocks image)) 0 (mapBits (blocks image))
+
+unfoldable pub map : List ℕ → Outcome
+map image = unless (eqb (mapPlace image) (mapBits (blocks image))) (refusal.Map (mapPlace image))

@@ -1,0 +1,1 @@
+// TWICE, BADHOME and MAP: what the verdict asks of the blocks that headers in use cover.

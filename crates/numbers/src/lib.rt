@@ -1,0 +1,1 @@
+// FILES and LINKS: what the verdict asks of file numbers and their headers.

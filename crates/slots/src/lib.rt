@@ -1,0 +1,3 @@
+// The slots of file numbers, walked in order.
+
+pub mod slots;

@@ -1,0 +1,1 @@
+// What sound means, and that the verdict accepts exactly the images that open and are sound.

@@ -1,0 +1,3 @@
+// The verdict: whether a volume opens and is sound.
+
+pub mod judging;
