@@ -7,8 +7,8 @@ use native.Mathlib.Numerals.{add-one}
 use native.Mathlib.Omega.{arith}
 use borrow.Author.Tests.{eq-eqb, ne-eqb}
 use lib.Dec.{eqb}
-use lib.ListN.{length, getD, length-append, List·getD-append}
-use lib.Seq.{getD-append-add}
+use lib.ListN.{length, getD, take, length-append, List·getD-append}
+use lib.Seq.{getD-append-add, take-append-seam, take-append-add}
 use Rattle.image.specs.Words.{Bytes}
 use Rattle.header.specs.Fields.{segment, mEfnu}
 use Rattle.header.specs.Pointers.{blocksOf}
@@ -121,6 +121,13 @@ module _ (image : List ℕ) (n : ℕ) (h : List ℕ) (d : ℕ) (w : Walk image n
   pub walk-here : (i : ℕ) → i < length (blocksOf h) → getD (fileBlocks image n) (d + i) 0 ≡ getD (blocksOf h) i 0
   walk-here i l =
       rw (walk-split, ← w .count) (getD-append-add (w .past) (blocksOf h ++ after) i 0 ∙ List·getD-append (blocksOf h) after 0 i l)
+
+  -- The file's blocks up to the end of the header at hand.
+  pub walk-take : take (d + length (blocksOf h)) (fileBlocks image n) ≡ take d (fileBlocks image n) ++ blocksOf h
+  walk-take =
+      rw (walk-split, ← w .count)
+      (take-append-add (w .past) (blocksOf h ++ after) (length (blocksOf h))
+      ∙ rw (take-append-seam (blocksOf h) after, take-append-seam (w .past) (blocksOf h ++ after)))
 
   -- A bad link breaks the chain, and in a good chain the link is good.
   pub walk-bad : goodLink image h ≡ false → goodChain image n ≡ false
