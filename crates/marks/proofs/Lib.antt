@@ -1,2 +1,3 @@
 pub mod SumLaws
 pub mod CountLaws
+pub mod MarkLaws
