@@ -1,14 +1,14 @@
 -- The blocks that headers in use cover; TWICE and MAP.
 use mathlib.Core.Bool.{Bool, not, _&&_}
 use mathlib.Core.List.{List}
-use Prim.Native.Nat.{ℕ, _+_, _*_}
+use Prim.Native.Nat.{ℕ, _+_, _*_, _≤_, _<_}
 use lib.Dec.{eqb, leb, ltb}
 use Rattle.image.specs.Bits.{bitAt}
 use Rattle.image.specs.First.{first}
 use Rattle.answer.specs.declared.refusal.Refusal.the-variants as refusal
 use Rattle.answer.specs.declared.outcome.Outcome.{Outcome}
 use Rattle.answer.specs.Outcome.{unless}
-use Rattle.header.specs.Pointers.{blocksOf}
+use Rattle.header.specs.Pointers.{pointerLbn, pointerCount, pointersAt, pointers, blocksOf}
 use Rattle.volume.specs.Home.{blocks}
 use Rattle.volume.specs.Volume.{fmax, mapBlocks, storageMap}
 use Rattle.marks.specs.Counts.{oneIf, count}
@@ -18,6 +18,10 @@ use Rattle.slots.specs.Slots.{gathered}
 -- header in use." The slot of an extension header is a block of file 1 and of no other, so it stands here once.
 unfoldable pub covered : List ℕ → List ℕ
 covered image = gathered image blocksOf (fmax image)
+
+-- Each pointer of a header ends at or below k.
+pub record Ends (k : ℕ) (h : List ℕ) : Type 0 where
+  pub each : (p : ℕ) → p < pointers h → pointerLbn h (pointersAt h + 4 * p) + pointerCount h (pointersAt h + 4 * p) ≤ k
 
 -- 01, The verdict: "TWICE: LBN covered by two places in pointers of headers in use." The list is that of all covered LBNs.
 unfoldable pub coveredTwice : List ℕ → ℕ → Bool

@@ -1,5 +1,5 @@
 -- BADHOME: what the verdict asks of the home positions below the home.
-use mathlib.Core.Bool.{Bool}
+use mathlib.Core.Bool.{Bool, not}
 use mathlib.Core.List.{List}
 use Prim.Native.Nat.{ℕ}
 use lib.Dec.{eqb}
@@ -10,6 +10,7 @@ use Rattle.answer.specs.Outcome.{unless}
 use Rattle.volume.specs.Home.{position, homeIndex}
 use Rattle.file.specs.Chains.{fileBlocks}
 use Rattle.marks.specs.Counts.{count}
+use Rattle.marks.specs.Marks.{markedTwice}
 
 -- 01, The verdict: "BADHOME: a home position below the home, not covered by a header of file 3." Position i, from 0, is none of these LBNs.
 unfoldable pub leftOut : List ℕ → ℕ → Bool
@@ -22,3 +23,7 @@ badHomeIndex image = first (leftOut (fileBlocks image 3)) 0 (homeIndex image)
 
 unfoldable pub badHome : List ℕ → Outcome
 badHome image = unless (eqb (badHomeIndex image) (homeIndex image)) (refusal.Badhome (position (badHomeIndex image)))
+
+-- The mark of position i is not 2.
+unfoldable pub unmarked : List ℕ → ℕ → Bool
+unmarked area i = not (markedTwice area (position i))

@@ -1,7 +1,34 @@
 // The verdict, in its order, and its counts.
 use answer::outcome::Outcome;
 use answer::refusal::Refusal;
+use covers::covered::cover;
+use covers::covered::map;
+use covers::covered::twice;
+use covers::homes::bad_home;
+use image::blocks::region;
+use marks::maps::count_first_set;
+use marks::maps::count_set;
+use marks::marks::count_marked;
+use numbers::files::files;
+use numbers::links::links;
+use volume::opening::open;
 use volume::volume::Volume;
+use volume::volume::map_blocks;
+ghost use mathlib.Core.Path.{_≡_};
+ghost use mathlib.Core.Bool.{true};
+ghost use Prim.Native.Nat.{_≤_};
+ghost use lib.ListN.{length};
+ghost use Rattle.answer.specs.declared.outcome.Outcome.the-variants.{Passed};
+ghost use Rattle.answer.specs.Outcome.{_then_};
+ghost use Rattle.volume.specs.Home.{blocks};
+ghost use Rattle.volume.specs.Volume.{fmax, volumeOf};
+ghost use Rattle.volume.specs.Opening.{Open};
+ghost use Rattle.marks.specs.Marks.{tallied};
+ghost use Rattle.numbers.specs.Files.{files};
+ghost use Rattle.numbers.specs.Links.{linked, links};
+ghost use Rattle.covers.specs.Covered.{covered, twice, map};
+ghost use Rattle.covers.specs.Homes.{badHome};
+ghost use Rattle.verdict.specs.Verdict.{roomy, verdict, afterwards, headerMarks, blockMarks, countsOf, verdictAnswer};
 
 // The verdict's four counts.
 pub struct Counts {
@@ -25,4 +52,102 @@ pub enum Judged {
 pub struct JudgedVolume {
     pub outcome: Outcome,
     pub volume: Volume,
+}
+
+// TWICE, BADHOME and MAP, once FILES and LINKS are passed; and the block marks.
+fn judge_blocks(image: &[u8], v: Volume, area: &mut [u8]) -> Outcome
+    requires { ⌜ Open (now image) v × (files (now image) ≡ Passed) × (links (now image) ≡ Passed) × (blocks (now image) ≤ length (now area)) ⌝ }
+    ensures { λ r. ⌜ (r ≡ (twice (now (image .entry)) then badHome (now (image .entry)) then map (now (image .entry))))
+        × (now (area .exit) ≡ tallied (covered (now (image .entry))) 0 (blocks (now (image .entry))) (now (area .entry))) ⌝ }
+{
+    cover(image, v, area);
+    let once = twice(image, v, area);
+    match once {
+        Outcome::Passed => {
+            let passed = bad_home(image, v, area);
+            match passed {
+                Outcome::Passed => map(image, v, area),
+                Outcome::Refused(r) => Outcome::Refused(r),
+            }
+        }
+        Outcome::Refused(r) => Outcome::Refused(r),
+    }
+}
+
+// The five rules, in their order; and the marks.
+fn judge_opened(image: &[u8], v: Volume, area: &mut [u8], headers: &mut [u8]) -> Outcome
+    requires { ⌜ Open (now image) v × (blocks (now image) ≤ length (now area)) × (fmax (now image) ≤ length (now headers)) ⌝ }
+    ensures { λ r. ⌜ (r ≡ (files (now (image .entry)) then links (now (image .entry)) then twice (now (image .entry)) then badHome (now (image .entry)) then map (now (image .entry))))
+        × (now (area .exit) ≡ afterwards (files (now (image .entry)) then links (now (image .entry))) (now (area .entry)) (tallied (covered (now (image .entry))) 0 (blocks (now (image .entry))) (now (area .entry))))
+        × (now (headers .exit) ≡ afterwards (files (now (image .entry))) (now (headers .entry)) (tallied (linked (now (image .entry))) 1 (fmax (now (image .entry))) (now (headers .entry)))) ⌝ }
+{
+    let numbered = files(image, v);
+    match numbered {
+        Outcome::Passed => {
+            let chained = links(image, v, headers);
+            match chained {
+                Outcome::Passed => judge_blocks(image, v, area),
+                Outcome::Refused(r) => Outcome::Refused(r),
+            }
+        }
+        Outcome::Refused(r) => Outcome::Refused(r),
+    }
+}
+
+// Opens a volume and judges it.
+pub fn judge_volume(image: &[u8], area: &mut [u8], headers: &mut [u8]) -> JudgedVolume
+    ensures { λ r. ⌜ (r .outcome ≡ verdict (now (image .entry)) (length (now (area .entry))) (length (now (headers .entry))))
+        × (verdict (now (image .entry)) (length (now (area .entry))) (length (now (headers .entry))) ≡ Passed → r .volume ≡ volumeOf (now (image .entry)))
+        × (now (area .exit) ≡ blockMarks (now (image .entry)) (now (area .entry)) (now (headers .entry)))
+        × (now (headers .exit) ≡ headerMarks (now (image .entry)) (now (area .entry)) (now (headers .entry))) ⌝ }
+{
+    let o = open(image);
+    let opened = o.outcome;
+    let v = o.volume;
+    match opened {
+        Outcome::Passed => {
+            if (area.len() < (v.blocks as usize)) | (headers.len() < (v.fmax as usize)) {
+                return JudgedVolume {
+                    outcome: Outcome::Refused(Refusal::Work),
+                    volume: v,
+                };
+            }
+            let outcome = judge_opened(image, v, area, headers);
+            JudgedVolume { outcome, volume: v }
+        }
+        Outcome::Refused(r) => JudgedVolume {
+            outcome: Outcome::Refused(r),
+            volume: v,
+        },
+    }
+}
+
+// The four counts of a volume whose blocks are marked.
+fn count(image: &[u8], v: Volume, area: &[u8]) -> Counts
+    requires { ⌜ Open (now image) v × (blocks (now image) ≤ length (now area)) × (now area ≡ tallied (covered (now image)) 0 (blocks (now image)) (now area)) ⌝ }
+    ensures { λ r. ⌜ r ≡ countsOf (now (image .entry)) ⌝ }
+{
+    let claimed = count_marked(area, v.blocks as usize);
+    let free = count_set(region(image, v.base, map_blocks(v.blocks)));
+    let headers = count_first_set(region(image, v.iblb, v.ibsz), v.fmax as usize);
+    Counts {
+        blocks: v.blocks,
+        claimed,
+        free,
+        headers,
+    }
+}
+
+// The verdict.
+pub fn judge(image: &[u8], area: &mut [u8], headers: &mut [u8]) -> Judged
+    ensures { λ r. ⌜ (r ≡ verdictAnswer (now (image .entry)) (now (area .entry)) (now (headers .entry)))
+        × (now (area .exit) ≡ blockMarks (now (image .entry)) (now (area .entry)) (now (headers .entry)))
+        × (now (headers .exit) ≡ headerMarks (now (image .entry)) (now (area .entry)) (now (headers .entry))) ⌝ }
+{
+    let j = judge_volume(image, area, headers);
+    let result = j.outcome;
+    match result {
+        Outcome::Passed => Judged::Done(count(image, j.volume, area)),
+        Outcome::Refused(r) => Judged::Refused(r),
+    }
 }
