@@ -4,7 +4,7 @@ use mathlib.Core.Bool.{Bool, true, false}
 use mathlib.Core.List.{List, [], _∷_, _++_}
 use Prim.Native.Nat.{ℕ, zero, suc, _+_, _≤_, _<_}
 use native.Mathlib.Decide.{ℕ-discrete, decLt}
-use native.Mathlib.Nat.{add-zero, add-suc, add-assoc}
+use native.Mathlib.Nat.{zero-add, add-zero, add-suc, add-assoc}
 use native.Mathlib.Numerals.{add-one}
 use native.Mathlib.Omega.{arith}
 use borrow.Author.Tests.{eq-eqb, ne-eqb}
@@ -149,6 +149,9 @@ howMany-none p s = refl
 pub howMany-more : (p : ℕ → Bool) (s d : ℕ) → howMany p s (d + 1) ≡ howMany p s d + oneIf (p (s + d))
 unfolding howMany
 howMany-more p s d = rw (add-one d)
+
+pub howMany-next : (p : ℕ → Bool) (d : ℕ) → howMany p 0 (d + 1) ≡ howMany p 0 d + oneIf (p d)
+howMany-next p d = howMany-more p 0 d ∙ ap (λ (k : ℕ). howMany p 0 d + oneIf (p k)) (zero-add d)
 
 pub howMany-same : (p q : ℕ → Bool) (s d : ℕ) → ((i : ℕ) → s ≤ i → i < s + d → p i ≡ q i) → howMany p s d ≡ howMany q s d
 unfolding howMany

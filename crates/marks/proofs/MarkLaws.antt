@@ -1,18 +1,22 @@
 -- Laws of tables, and of the marks of a work area.
 use mathlib.Core.Path.{_≡_, refl, sym, ap, _∙_}
+use mathlib.Core.Bool.{true, false}
 use mathlib.Core.List.{List, [], _∷_, _++_, append-nil, append-assoc}
 use Prim.Native.Nat.{ℕ, zero, suc, _+_, _-_, _≤_, _<_, min}
-use native.Mathlib.Nat.{zero-add, sub-zero}
+use native.Mathlib.Nat.{zero-add, add-zero, sub-zero, suc-add}
 use native.Mathlib.Decide.{ℕ-discrete, decLt}
+use native.Mathlib.Numerals.{add-one}
 use native.Mathlib.Omega.{arith}
+use borrow.Author.Fill.{fill-more}
 use borrow.Author.Tests.{le-leb, lt-leb, eq-eqb, ne-eqb}
 use lib.Dec.{leb, eqb}
 use lib.ListN.{length, getD, drop, set, length-set, length-append, length-drop, List·getD-append}
-use lib.Seq.{ext-getD, getD-set-same, getD-set-other, set-append-left, drop-at, getD-drop}
+use lib.Seq.{ext-getD, getD-set-same, getD-set-other, set-append-left, drop-at, drop-cons, set-at, getD-drop, getD-append-add}
 use Rattle.image.specs.Words.{byteAt, Bytes}
-use Rattle.image.specs.Stores.{zeros}
+use Rattle.image.specs.Stores.{zeros, numbersFrom}
+use Rattle.image.proofs.Numbers.{numbersFrom-none, numbersFrom-last}
 use Rattle.image.proofs.StoreLaws.{zeros-length, zeros-byte}
-use Rattle.marks.specs.Counts.{count}
+use Rattle.marks.specs.Counts.{oneIf, count}
 use Rattle.marks.specs.Marks.{table, capped, tallied, cleared, raised, raisedBy, lowered, markedTwice, marked}
 use Rattle.marks.proofs.CountLaws.{count-none, count-here, count-skip, count-append}
 
@@ -36,6 +40,19 @@ table-is f s n l e h = ext-getD 0 l (table f s n) (e ∙ sym (table-length f s n
 -- Another function with the same values.
 pub table-same : (f g : ℕ → ℕ) (s n : ℕ) → ((i : ℕ) → i < n → f (s + i) ≡ g (s + i)) → table f s n ≡ table g s n
 table-same f g s n h = table-is g s n (table f s n) (table-length f s n) (λ i k. table-at f s n i k ∙ h i k)
+
+-- One element more, at the end.
+pub table-last : (f : ℕ → ℕ) (s n : ℕ) → table f s (n + 1) ≡ table f s n ++ (f (s + n) ∷ [])
+unfolding table
+table-last f s zero = ap (λ (x : ℕ). f x ∷ []) (omega arith)
+table-last f s (suc n) =
+    let e : s + 1 + n ≡ s + suc n = omega arith in
+    rw (suc-add n 1) (ap (λ (l : List ℕ). f s ∷ l) (table-last f (s + 1) n ∙ ap (λ (x : ℕ). table f (s + 1) n ++ (f x ∷ [])) e))
+
+-- A store right behind the table makes it one longer.
+pub table-more : (f : ℕ → ℕ) (n : ℕ) (area : List ℕ) → n < length area → set (table f 0 n ++ drop n area) n (f n) ≡ table f 0 (n + 1) ++ drop (n + 1) area
+table-more f n area h =
+    rw (table-last, zero-add n, add-one n, drop-cons area n 0 h, append-assoc) (set-at (table f 0 n) (getD area n 0) (drop (suc n) area) (f n) n (table-length f 0 n))
 
 -- A store takes the table of f to the table of g, where the two differ at the place stored alone.
 pub table-set : (f g : ℕ → ℕ) (s n j v : ℕ) (rest : List ℕ) → j < n → g (s + j) ≡ v → ((i : ℕ) → i < n → (i ≡ j → ⊥) → g (s + i) ≡ f (s + i))
@@ -86,6 +103,24 @@ capped-clear l x = go (count x l) (ℕ-discrete (count x l) 0)
     go c (yes h) = eq-eqb (min 2 c) 0 (omega arith) ∙ sym (eq-eqb c 0 h)
     go c (no h) = ne-eqb (min 2 c) 0 (λ e. h (omega arith)) ∙ sym (ne-eqb c 0 h)
 
+-- What a mark says.
+pub twice-true : (area : List ℕ) (i : ℕ) → 2 ≤ byteAt area i → markedTwice area i ≡ true
+unfolding markedTwice
+twice-true area i h = le-leb 2 (byteAt area i) h
+
+pub twice-false : (area : List ℕ) (i : ℕ) → byteAt area i < 2 → markedTwice area i ≡ false
+unfolding markedTwice
+twice-false area i h = lt-leb 2 (byteAt area i) h
+
+-- A mark that says "covered" adds what it is capped at 1.
+pub marked-one : (area : List ℕ) (i : ℕ) → oneIf (marked area i) ≡ min 1 (byteAt area i)
+unfolding marked
+marked-one area i = go (byteAt area i)
+  where
+    go : (m : ℕ) → oneIf (leb 1 m) ≡ min 1 m
+    go zero = refl
+    go (suc m) = rw (le-leb 1 (suc m) (omega arith)) (omega arith)
+
 -- The marks of an area.
 
 module _ (l : List ℕ) (s k : ℕ) (area : List ℕ) where
@@ -126,6 +161,31 @@ module _ (l : List ℕ) (s k : ℕ) (area : List ℕ) where
 
   pub tallied-clear : (i : ℕ) → i < k → eqb (byteAt (tallied l s k area) i) 0 ≡ eqb (count (s + i) l) 0
   tallied-clear i h = rw (tallied-at i h) (capped-clear l (s + i))
+
+-- The loops that clear and that lower, one mark after the other.
+
+pub cleared-none : (area : List ℕ) → cleared area 0 ≡ area
+unfolding cleared zeros
+cleared-none area = refl
+
+pub cleared-more : (area : List ℕ) (i : ℕ) → i < length area → set (cleared area i) i 0 ≡ cleared area (i + 1)
+unfolding cleared zeros
+cleared-more area i h = fill-more i 0 area h
+
+pub lowered-none : (area : List ℕ) → lowered area 0 ≡ area
+unfolding lowered table
+lowered-none area = refl
+
+pub lowered-next : (area : List ℕ) (i : ℕ) → byteAt (lowered area i) i ≡ byteAt area i
+unfolding lowered
+lowered-next area i =
+    let t : List ℕ = table (λ j. min 1 (byteAt area j)) 0 i in
+    let e : i ≡ length t + 0 = omega (arith, table-length (λ j. min 1 (byteAt area j)) 0 i) in
+    ap (byteAt (t ++ drop i area)) e ∙ getD-append-add t (drop i area) 0 0 ∙ getD-drop i area 0 0 ∙ ap (byteAt area) (add-zero i)
+
+pub lowered-more : (area : List ℕ) (i : ℕ) → i < length area → set (lowered area i) i (min 1 (byteAt area i)) ≡ lowered area (i + 1)
+unfolding lowered
+lowered-more area i h = table-more (λ j. min 1 (byteAt area j)) i area h
 
 -- Lists with the same capped counts leave the same marks.
 pub tallied-same : (l l′ : List ℕ) (s k : ℕ) (area : List ℕ) → ((i : ℕ) → i < k → capped l (s + i) ≡ capped l′ (s + i)) → tallied l s k area ≡ tallied l′ s k area
@@ -172,6 +232,13 @@ pub raisedBy-append : (area is js : List ℕ) → raisedBy area (is ++ js) ≡ r
 unfolding raisedBy
 raisedBy-append area [] js = refl
 raisedBy-append area (i ∷ is) js = raisedBy-append (raised area i) is js
+
+-- The places of a run: none, and one more.
+pub raisedRun-none : (area : List ℕ) (s : ℕ) → raisedBy area (numbersFrom s 0) ≡ area
+raisedRun-none area s = rw numbersFrom-none (raisedBy-none area)
+
+pub raisedRun-more : (area : List ℕ) (s i : ℕ) → raisedBy area (numbersFrom s (i + 1)) ≡ raised (raisedBy area (numbersFrom s i)) (s + i)
+raisedRun-more area s i = rw numbersFrom-last (raisedBy-append area (numbersFrom s i) ((s + i) ∷ []) ∙ raisedBy-one (raisedBy area (numbersFrom s i)) (s + i))
 
 pub raisedBy-length : (area js : List ℕ) → length (raisedBy area js) ≡ length area
 unfolding raisedBy
