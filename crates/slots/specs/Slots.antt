@@ -3,8 +3,15 @@ use mathlib.Core.Path.{_≡_}
 use mathlib.Core.Bool.{cond}
 use mathlib.Core.List.{List, [], _∷_, _++_}
 use Prim.Native.Nat.{ℕ, zero, suc, _+_, _≤_, _<_}
+use lib.ListN.{length, getD}
 use Rattle.volume.specs.Volume.{slot, slots, header, inUse}
 use Rattle.slots.specs.declared.slots.SlotRun.{SlotRun}
+
+-- The blocks from place i, from 0, of a list of LBNs on that lie in a row, and none past the last.
+pub record RunOf (lbns : List ℕ) (i : ℕ) (run : SlotRun) : Type 0 where
+  pub has : (j : ℕ) → j < run .left → i + j < length lbns
+  pub row : (j : ℕ) → j < run .left → getD lbns (i + j) 0 ≡ run .lbn .0 + j
+  pub none : run .left ≡ 0 → length lbns ≤ i
 
 -- A walk over the slots stands at number n: the slots of the numbers from n on that lie in a row, and none past the last slot.
 pub record Stands (image : List ℕ) (n : ℕ) (run : SlotRun) : Type 0 where
