@@ -1,1 +1,6 @@
 pub mod Tests
+pub mod GatherLaws
+pub mod FilesLaws
+pub mod LinksLaws
+pub mod CoverLaws
+pub mod HomeLaws

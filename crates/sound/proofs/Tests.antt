@@ -78,20 +78,16 @@ s-map f g p = record { yields = λ e. f (p .yields e); holds = λ x. p .holds (g
 pub j-map : {o : Outcome} {P Q : Type 0} → (P → Q) → (Q → P) → Judges o P → Judges o Q
 j-map f g p = record { yields = λ e. f (p .yields e); holds = λ x. p .holds (g x) }
 
--- A rule that names the first of the d numbers from s on that offends is passed exactly where each of them is spared.
-pub j-each : {p : ℕ → Bool} {P : ℕ → Type 0} (s d : ℕ) (r : Refusal) → ((k : ℕ) → Spares (p k) (P k))
-    → Judges (unless (eqb (first p s d) (s + d)) r) ((k : ℕ) → s ≤ k → k < s + d → P k)
+-- A rule that names the first of the d numbers from s on that offends, or e past them, is passed exactly where each of them is spared.
+pub j-each : {p : ℕ → Bool} {P : ℕ → Type 0} (s d e : ℕ) (r : Refusal) → e ≡ s + d → ((k : ℕ) → Spares (p k) (P k))
+    → Judges (unless (eqb (first p s d) e) r) ((k : ℕ) → s ≤ k → k < e → P k)
 unfolding unless
-j-each {p} {P} s d r t = record {
-  yields = λ e k a b. t k .yields (first-has p s d .before k a (omega (arith, eqb-true (first p s d) (s + d) (passed-last (eqb (first p s d) (s + d)) r e))));
+j-each {p} {P} s d e r end t = record {
+  yields = λ o k a b. t k .yields (first-has p s d .before k a (omega (arith, eqb-true (first p s d) e (passed-last (eqb (first p s d) e) r o))));
   holds = λ h.
-      let e : first p s d ≡ s + d = first-is p s d (s + d) (record {
-        low = omega arith;
-        high = omega arith;
-        before = λ k a b. t k .holds (h k a b);
-        here = λ l. absurd (omega arith);
-      }) in
-      rw (eq-eqb (first p s d) (s + d) e);
+      let all : first p s d ≡ e =
+      first-is p s d e (record { low = omega arith; high = omega arith; before = λ k a b. t k .holds (h k a b); here = λ l. absurd (omega arith) }) in
+      rw (eq-eqb (first p s d) e all);
 }
 
 -- A rule after another: what the second says may rest on what the first says.
