@@ -4,3 +4,4 @@ pub mod FilesLaws
 pub mod LinksLaws
 pub mod CoverLaws
 pub mod HomeLaws
+pub mod ExactLaws
