@@ -112,7 +112,7 @@ module _ (image : List ℕ) where
       clear m (yes l) (no c) = absurd (false≢true (t .holds (l, omega arith)))
       clear m (no l) c = m .beyond (omega arith)
 
-  bits-enough : blocks image ≤ mapBits (blocks image)
+  pub bits-enough : blocks image ≤ mapBits (blocks image)
   unfolding mapBits mapBlocks
   bits-enough = omega arith
 

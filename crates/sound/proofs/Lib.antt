@@ -5,3 +5,4 @@ pub mod LinksLaws
 pub mod CoverLaws
 pub mod HomeLaws
 pub mod ExactLaws
+pub mod CountLaws
