@@ -6,3 +6,5 @@ pub mod CoverLaws
 pub mod HomeLaws
 pub mod ExactLaws
 pub mod CountLaws
+pub mod MemberLaws
+pub mod ChainLaws
