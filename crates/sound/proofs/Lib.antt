@@ -8,3 +8,5 @@ pub mod ExactLaws
 pub mod CountLaws
 pub mod MemberLaws
 pub mod ChainLaws
+pub mod BlockLaws
+pub mod ApartLaws
