@@ -1,6 +1,6 @@
 -- The verdict answers DONE exactly where the image opens and is sound: its rules one after the other, each with the part that it stands for.
 use mathlib.Core.Path.{_≡_, refl}
-use mathlib.Core.Bool.{Bool, true, false, false≢true, _&&_}
+use mathlib.Core.Bool.{true, false, false≢true, _&&_}
 use mathlib.Core.List.{List}
 use Prim.Native.Nat.{ℕ, _≤_, _<_}
 use native.Mathlib.Omega.{arith}
@@ -18,7 +18,6 @@ use Rattle.volume.specs.Opening.{openVolume}
 use Rattle.volume.proofs.VolumeLaws.{opens}
 use Rattle.verdict.specs.declared.judging.Counts.{Counts}
 use Rattle.verdict.specs.Verdict.{roomy, ready, verdict, countsOf, judged, verdictAnswer}
-use Rattle.numbers.specs.Files.{files}
 use Rattle.sound.specs.Sound.{BlockOf, Sound}
 use Rattle.sound.specs.Claims.{isDone, VerdictExact}
 use Rattle.sound.proofs.Tests.{Judges, j-map, j-then}

@@ -1,6 +1,6 @@
 -- Laws of what the headers in use give, one after the other: how often a number stands there is a sum over the headers, so it stands there as
 -- often as there are places that give it.
-use mathlib.Core.Path.{_≡_, refl, sym, ap, ap₂, _∙_}
+use mathlib.Core.Path.{_≡_, refl, sym, ap₂, _∙_}
 use mathlib.Core.Bool.{Bool, true, false, cond}
 use mathlib.Core.Logic.{_⊎_, inl, inr}
 use mathlib.Core.List.{List, []}
@@ -10,8 +10,8 @@ use native.Mathlib.Omega.{arith}
 use lib.ListN.{length, getD}
 use Rattle.volume.specs.Volume.{fmax, header, inUse}
 use Rattle.marks.specs.Counts.{count}
-use Rattle.marks.proofs.SumLaws.{when, sumTo, sum-one, sum-apart, Place, sum-find, Heavy, Places, sum-pair}
-use Rattle.marks.proofs.CountLaws.{count-none, count-append, count-at, count-apart, Found, count-find, Pair, count-pair}
+use Rattle.marks.proofs.SumLaws.{when, sumTo, sum-one, sum-apart, sum-find, Heavy, Places, sum-pair}
+use Rattle.marks.proofs.CountLaws.{count-none, count-append, count-at, count-apart, count-find, count-pair}
 use Rattle.slots.specs.Slots.{gathered}
 use Rattle.sound.proofs.Tests.{t-is, t-le, t-and}
 

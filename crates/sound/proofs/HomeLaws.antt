@@ -1,5 +1,4 @@
 -- BADHOME is passed exactly where the home positions passed over are blocks of file 3.
-use mathlib.Core.Path.{_≡_}
 use mathlib.Core.List.{List}
 use Prim.Native.Nat.{ℕ, _≤_, _<_}
 use native.Mathlib.Omega.{arith}

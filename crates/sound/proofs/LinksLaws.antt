@@ -14,7 +14,7 @@ use Rattle.file.specs.Chains.{linksOn, goodLink}
 use Rattle.marks.specs.Counts.{count}
 use Rattle.numbers.specs.Links.{linkOf, linked, linksWanted, badLinks, linksPlace, links}
 use Rattle.sound.specs.Sound.{GoodLink, OneLink}
-use Rattle.sound.proofs.Tests.{Tests, Spares, Judges, t-eq, t-le, t-is, t-and, t-or, t-map, s-unmet, j-each, j-map}
+use Rattle.sound.proofs.Tests.{Tests, Judges, t-eq, t-le, t-is, t-and, t-or, t-map, s-unmet, j-each, j-map}
 use Rattle.sound.proofs.GatherLaws.{used-range, Gives, gathered-has, gathered-find, gathered-apart, gathered-once}
 
 -- No header in use links to n; each that does is the one.

@@ -1,8 +1,8 @@
 -- Laws of the members of a chain, and of the places of its blocks. They hold of every chain; hdr gives the header of a number.
-use mathlib.Core.Path.{_≡_, refl, sym, ap, ap₂, _∙_}
+use mathlib.Core.Path.{_≡_, sym, ap, _∙_}
 use mathlib.Core.Logic.{_⊎_, inl, inr}
-use mathlib.Core.List.{List, [], _∷_, _++_, append-nil}
-use Prim.Native.Nat.{ℕ, zero, suc, _+_, _-_, _≤_, _<_}
+use mathlib.Core.List.{List, [], _∷_, _++_}
+use Prim.Native.Nat.{ℕ, zero, suc, _+_, _-_, _<_}
 use native.Mathlib.Numerals.{add-one}
 use native.Mathlib.Decide.{ℕ-discrete, decLt}
 use native.Mathlib.Omega.{arith}
@@ -12,7 +12,7 @@ use Rattle.header.specs.Fields.{mEfnu}
 use Rattle.header.specs.Pointers.{blocksOf}
 use Rattle.file.specs.Chains.{chain, flat}
 use Rattle.file.proofs.ChainLaws as file
-use Rattle.marks.specs.Counts.{count, In}
+use Rattle.marks.specs.Counts.{In}
 use Rattle.marks.proofs.CountLaws.{count-none, count-here, count-skip, count-tail}
 
 pub in-cases : (x y : ℕ) (l : List ℕ) → In x (y ∷ l) → (x ≡ y) ⊎ In x l
