@@ -1,4 +1,4 @@
--- The blocks of the files of a sound image: each is covered by one place of one header, and a header is a member of one chain.
+-- The blocks of a chain of a sound image: each is covered by one place of one header, so they are pairwise different.
 use mathlib.Core.Path.{_≡_, refl, sym, ap, _∙_}
 use mathlib.Core.Bool.{true}
 use mathlib.Core.List.{List, _++_}
@@ -9,29 +9,26 @@ use lib.ListN.{length, getD, length-append, List·getD-append}
 use lib.Seq.{getD-append-add}
 use Rattle.header.specs.Fields.{mEfnu}
 use Rattle.header.specs.Pointers.{blocksOf}
-use Rattle.volume.specs.Home.{blocks}
 use Rattle.volume.specs.Volume.{header, inUse}
-use Rattle.file.specs.Chains.{chain, chainOf, flat, fileBlocks}
+use Rattle.file.specs.Chains.{chain, flat}
 use Rattle.marks.specs.Counts.{In}
 use Rattle.sound.specs.Sound.{Covers, Sound}
-use Rattle.sound.specs.Claims.{IsFile}
-use Rattle.sound.proofs.CoverLaws.{covers-below}
 use Rattle.sound.proofs.MemberLaws.{flat-at, flat-end, flat-more}
-use Rattle.sound.proofs.ChainLaws.{chain-used, chain-apart, chains-apart}
+use Rattle.sound.proofs.ChainLaws.{chain-used, chain-apart}
+
+-- LBN j is covered by a member of a list of numbers.
+pub record Lies (image l : List ℕ) (j : ℕ) : Type 0 where
+  pub number : ℕ
+  pub member : In number l
+  pub place : ℕ
+  pub covers : Covers image number place j
 
 module _ (image : List ℕ) (s : Sound image) where
   abbrev hdr : ℕ → List ℕ
   hdr = header image
 
-  -- LBN j is covered by a member of a list of numbers.
-  pub record Lies (l : List ℕ) (j : ℕ) : Type 0 where
-    pub number : ℕ
-    pub member : In number l
-    pub place : ℕ
-    pub covers : Covers image number place j
-
   -- Block i of what is left of a chain.
-  chain-lies : (f n : ℕ) → inUse image n ≡ true → (i : ℕ) → i < length (flat hdr (chain hdr f n)) → Lies (chain hdr f n) (getD (flat hdr (chain hdr f n)) i 0)
+  pub chain-lies : (f n : ℕ) → inUse image n ≡ true → (i : ℕ) → i < length (flat hdr (chain hdr f n)) → Lies image (chain hdr f n) (getD (flat hdr (chain hdr f n)) i 0)
   chain-lies f n u i l =
       let a = flat-at hdr (chain hdr f n) i l in
       record {
@@ -69,31 +66,31 @@ module _ (image : List ℕ) (s : Sound image) where
   more-different : (f n : ℕ) → Different f (mEfnu (hdr n)) → Different (suc f) n
   more-different f n rest u i j l k e = go (ℕ-discrete (mEfnu (hdr n)) 0)
     where
-      B : List ℕ
-      B = blocksOf (hdr n)
+      own : List ℕ
+      own = blocksOf (hdr n)
 
-      R : List ℕ
-      R = flat hdr (chain hdr f (mEfnu (hdr n)))
+      others : List ℕ
+      others = flat hdr (chain hdr f (mEfnu (hdr n)))
 
       -- Block k past the first header's is one of the rest.
-      past : (k : ℕ) → length B ≤ k → k < length (B ++ R) → (k - length B < length R) × (getD (B ++ R) k 0 ≡ getD R (k - length B) 0)
+      past : (k : ℕ) → length own ≤ k → k < length (own ++ others) → (k - length own < length others) × (getD (own ++ others) k 0 ≡ getD others (k - length own) 0)
       past k h l =
-          let q : k ≡ length B + (k - length B) = omega arith in
-          (omega (arith, length-append B R), ap (λ (x : ℕ). getD (B ++ R) x 0) q ∙ getD-append-add B R (k - length B) 0)
+          let q : k ≡ length own + (k - length own) = omega arith in
+          (omega (arith, length-append own others), ap (λ (x : ℕ). getD (own ++ others) x 0) q ∙ getD-append-add own others (k - length own) 0)
 
-      both : (mEfnu (hdr n) ≡ 0 → ⊥) → i < length (B ++ R) → j < length (B ++ R) → getD (B ++ R) i 0 ≡ getD (B ++ R) j 0
-          → Dec (i < length B) → Dec (j < length B) → i ≡ j
-      both ne l k e (yes a) (yes b) = here-different n i j u a b (sym (List·getD-append B R 0 i a) ∙ e ∙ List·getD-append B R 0 j b)
+      both : (mEfnu (hdr n) ≡ 0 → ⊥) → i < length (own ++ others) → j < length (own ++ others) → getD (own ++ others) i 0 ≡ getD (own ++ others) j 0
+          → Dec (i < length own) → Dec (j < length own) → i ≡ j
+      both ne l k e (yes a) (yes b) = here-different n i j u a b (sym (List·getD-append own others 0 i a) ∙ e ∙ List·getD-append own others 0 j b)
       both ne l k e (yes a) (no b) =
           let q = past j (omega arith) k in
-          absurd (rest-different f n u ne i (j - length B) a (q .0) (sym (List·getD-append B R 0 i a) ∙ e ∙ q .1))
+          absurd (rest-different f n u ne i (j - length own) a (q .0) (sym (List·getD-append own others 0 i a) ∙ e ∙ q .1))
       both ne l k e (no a) (yes b) =
           let p = past i (omega arith) l in
-          absurd (rest-different f n u ne j (i - length B) b (p .0) (sym (List·getD-append B R 0 j b) ∙ sym e ∙ p .1))
+          absurd (rest-different f n u ne j (i - length own) b (p .0) (sym (List·getD-append own others 0 j b) ∙ sym e ∙ p .1))
       both ne l k e (no a) (no b) =
           let p = past i (omega arith) l in
           let q = past j (omega arith) k in
-          omega (arith, rest (s .link n u ne .used) (i - length B) (j - length B) (p .0) (q .0) (sym (p .1) ∙ e ∙ q .1))
+          omega (arith, rest (s .link n u ne .used) (i - length own) (j - length own) (p .0) (q .0) (sym (p .1) ∙ e ∙ q .1))
 
       go : Dec (mEfnu (hdr n) ≡ 0) → i ≡ j
       go (yes z) =
@@ -101,39 +98,8 @@ module _ (image : List ℕ) (s : Sound image) where
           here-different n i j u (rw b at l) (rw b at k) (rw b at e)
       go (no ne) =
           let b = flat-more hdr f n ne in
-          both ne (rw b at l) (rw b at k) (rw b at e) (decLt i (length B)) (decLt j (length B))
+          both ne (rw b at l) (rw b at k) (rw b at e) (decLt i (length own)) (decLt j (length own))
 
-  chain-different : (f n : ℕ) → Different f n
+  pub chain-different : (f n : ℕ) → Different f n
   chain-different zero n = none-different n
   chain-different (suc f) n = more-different f n (chain-different f (mEfnu (hdr n)))
-
-  -- The blocks of files.
-  pub file-lies : (f : ℕ) → IsFile image f → (i : ℕ) → i < length (fileBlocks image f) → Lies (chainOf image f) (getD (fileBlocks image f) i 0)
-  unfolding fileBlocks chainOf
-  file-lies f file i l = chain-lies 256 f (file .used) i l
-
-  pub file-inside : (f i : ℕ) → IsFile image f → i < length (fileBlocks image f) → getD (fileBlocks image f) i 0 < blocks image
-  file-inside f i file l =
-      let r = file-lies f file i l in
-      covers-below image (s .whole) (r .number) (r .place) (getD (fileBlocks image f) i 0) (r .covers)
-
-  one-file : (f i j : ℕ) → IsFile image f → i < length (fileBlocks image f) → j < length (fileBlocks image f)
-      → getD (fileBlocks image f) i 0 ≡ getD (fileBlocks image f) j 0 → i ≡ j
-  unfolding fileBlocks chainOf
-  one-file f i j file l k e = chain-different 256 f (file .used) i j l k e
-
-  -- Two files with a block in common are one.
-  pub files-apart : (f g i j : ℕ) → IsFile image f → IsFile image g → i < length (fileBlocks image f) → j < length (fileBlocks image g)
-      → getD (fileBlocks image f) i 0 ≡ getD (fileBlocks image g) j 0 → f ≡ g
-  files-apart f g i j ff fg l k e =
-      let a = file-lies f ff i l in
-      let b = file-lies g fg j k in
-      let c : Covers image (b .number) (b .place) (getD (fileBlocks image f) i 0) = rw e (b .covers) in
-      let q : a .number ≡ b .number = s .once (a .number) (a .place) (b .number) (b .place) (getD (fileBlocks image f) i 0) (a .covers) c .0 in
-      chains-apart image s f g ff fg (b .number) (rw q at (a .member)) (b .member)
-
-  pub file-different : (f g i j : ℕ) → IsFile image f → IsFile image g → i < length (fileBlocks image f) → j < length (fileBlocks image g)
-      → getD (fileBlocks image f) i 0 ≡ getD (fileBlocks image g) j 0 → (f ≡ g) × (i ≡ j)
-  file-different f g i j ff fg l k e =
-      let q : f ≡ g = files-apart f g i j ff fg l k e in
-      (q, one-file g i j fg (rw q at l) k (rw q at e))

@@ -33,7 +33,9 @@ module _ (image : List ℕ) (s : Sound image) where
   link-inj a b ua ub ne e =
       let g = s .link b ub ne in
       let o = s .later (efnu b) (g .used) (λ z. omega (arith, g .next)) in
-      o .only a ua e ∙ sym (o .only b ub refl)
+      let x : a ≡ o .from = o .only a ua e in
+      let y : b ≡ o .from = o .only b ub refl in
+      x ∙ sym y
 
   -- Every member is in use, and has no lower segment number than the first.
   pub chain-used : (f n x : ℕ) → Used n → In x (members f n) → Used x
@@ -54,7 +56,7 @@ module _ (image : List ℕ) (s : Sound image) where
           let g = s .link n u (k .0) in
           omega (arith, g .next, rest (g .used) (k .1))
 
-  -- The header after the first is none of those before it.
+  -- None of the rest is the first.
   pub chain-apart : (f n x : ℕ) → Used n → (efnu n ≡ 0 → ⊥) → In x (members f (efnu n)) → n ≡ x → ⊥
   chain-apart f n x u ne m e =
       let g = s .link n u ne in

@@ -16,7 +16,8 @@ use Rattle.covers.specs.Covered.{covered, mapBits}
 use Rattle.verdict.specs.Verdict.{isCovered, claimed, free}
 use Rattle.sound.specs.Sound.{Sound}
 use Rattle.sound.specs.Claims.{CountsAdd}
-use Rattle.sound.proofs.CoverLaws.{covered-has, covered-find, bits-enough}
+use Rattle.sound.proofs.CoverLaws.{covered-has, covered-find}
+use Rattle.sound.proofs.MapLaws.{bits-enough}
 
 module _ (image : List ℕ) (s : Sound image) where
   -- Exactly one of the two.

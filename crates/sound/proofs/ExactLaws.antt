@@ -1,6 +1,6 @@
 -- The verdict answers DONE exactly where the image opens and is sound: its rules one after the other, each with the part that it stands for.
 use mathlib.Core.Path.{_≡_, refl}
-use mathlib.Core.Bool.{true, false, false≢true, _&&_}
+use mathlib.Core.Bool.{true, false≢true, _&&_}
 use mathlib.Core.List.{List}
 use Prim.Native.Nat.{ℕ, _≤_, _<_}
 use native.Mathlib.Omega.{arith}
@@ -10,7 +10,7 @@ use borrow.Author.Tests.{le-leb}
 use Rattle.answer.specs.declared.refusal.Refusal.the-variants as refusal
 use Rattle.answer.specs.declared.outcome.Outcome.{Outcome}
 use Rattle.answer.specs.declared.outcome.Outcome.the-variants.{Passed, Refused}
-use Rattle.answer.specs.Outcome.{unless, _then_}
+use Rattle.answer.specs.Outcome.{unless}
 use Rattle.answer.proofs.OutcomeLaws.{passed-then, then-passed}
 use Rattle.volume.specs.Home.{blocks, position, homeIndex}
 use Rattle.volume.specs.Volume.{fmax}
@@ -23,7 +23,8 @@ use Rattle.sound.specs.Claims.{isDone, VerdictExact}
 use Rattle.sound.proofs.Tests.{Judges, j-map, j-then}
 use Rattle.sound.proofs.FilesLaws.{FilesSound, files-judges}
 use Rattle.sound.proofs.LinksLaws.{LinksSound, links-judges}
-use Rattle.sound.proofs.CoverLaws.{Once, MapSound, twice-judges, map-judges}
+use Rattle.sound.proofs.CoverLaws.{Once, twice-judges}
+use Rattle.sound.proofs.MapLaws.{MapSound, map-judges}
 use Rattle.sound.proofs.HomeLaws.{home-judges}
 
 -- Sound is its five parts.

@@ -3,6 +3,7 @@ pub mod GatherLaws
 pub mod FilesLaws
 pub mod LinksLaws
 pub mod CoverLaws
+pub mod MapLaws
 pub mod HomeLaws
 pub mod ExactLaws
 pub mod CountLaws

@@ -12,12 +12,13 @@ use Rattle.header.specs.Fields.{hFseq, segment, mEfnu, mEfsq}
 use Rattle.volume.specs.Volume.{fmax, slots, hasSlot, header, faultOf, inUse, isNumber}
 use Rattle.file.specs.Chains.{linksOn, goodLink}
 use Rattle.marks.specs.Counts.{count}
+use Rattle.marks.proofs.SumLaws.{sumTo}
 use Rattle.numbers.specs.Links.{linkOf, linked, linksWanted, badLinks, linksPlace, links}
 use Rattle.sound.specs.Sound.{GoodLink, OneLink}
 use Rattle.sound.proofs.Tests.{Tests, Judges, t-eq, t-le, t-is, t-and, t-or, t-map, s-unmet, j-each, j-map}
-use Rattle.sound.proofs.GatherLaws.{used-range, Gives, gathered-has, gathered-find, gathered-apart, gathered-once}
+use Rattle.sound.proofs.GatherLaws.{used-range, givenBy, Gives, gathered-count, gathered-has, gathered-find, gathered-apart, gathered-once}
 
--- No header in use links to n; each that does is the one.
+-- No header in use links to n.
 abbrev pub NoLink : List ℕ → ℕ → Type 0
 NoLink image n = (k : ℕ) → inUse image k ≡ true → mEfnu (header image k) ≡ n → ⊥
 
@@ -100,6 +101,11 @@ module _ (image : List ℕ) (n : ℕ) where
           ((segment (header image n) ≡ 0 → NoLink image n) × ((segment (header image n) ≡ 0 → ⊥) → OneLink image n))
       go (yes e) = rw (eq-eqb (segment (header image n)) 0 e) (t-map (λ none. (λ z. none, λ ne. absurd (ne e))) (λ r. r .0 e) none-is)
       go (no ne) = rw (ne-eqb (segment (header image n)) 0 ne) (t-map (λ one. (λ z. absurd (ne z), λ z. one)) (λ r. r .1 ne) one-is)
+
+-- How often n is linked is a sum over the headers in use.
+pub linked-count : (image : List ℕ) (n : ℕ) → count n (linked image) ≡ sumTo (fmax image) (givenBy image linkOf n)
+unfolding linked
+linked-count image n = gathered-count image linkOf n (fmax image)
 
 pub links-judges : (image : List ℕ) → Judges (links image) (LinksSound image)
 unfolding links linksPlace badLinks

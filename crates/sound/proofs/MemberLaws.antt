@@ -29,12 +29,18 @@ pub in-tail : (x y : ℕ) (l : List ℕ) → In x l → In x (y ∷ l)
 in-tail x y l h = omega (arith, count-tail x y l)
 
 module _ (hdr : ℕ → List ℕ) where
-  -- The chain of one header more.
+  -- The chain of one header more, and its blocks.
   pub chain-end : (f n : ℕ) → mEfnu (hdr n) ≡ 0 → chain hdr (suc f) n ≡ n ∷ []
   chain-end f n e = rw (← add-one f) (file.chain-end hdr f n e)
 
   pub chain-more : (f n : ℕ) → (mEfnu (hdr n) ≡ 0 → ⊥) → chain hdr (suc f) n ≡ n ∷ chain hdr f (mEfnu (hdr n))
   chain-more f n ne = rw (← add-one f) (file.chain-more hdr f n ne)
+
+  pub flat-end : (f n : ℕ) → mEfnu (hdr n) ≡ 0 → flat hdr (chain hdr (suc f) n) ≡ blocksOf (hdr n)
+  flat-end f n e = rw (← add-one f) (file.flat-end hdr f n e)
+
+  pub flat-more : (f n : ℕ) → (mEfnu (hdr n) ≡ 0 → ⊥) → flat hdr (chain hdr (suc f) n) ≡ blocksOf (hdr n) ++ flat hdr (chain hdr f (mEfnu (hdr n)))
+  flat-more f n ne = rw (← add-one f) (file.flat-more hdr f n ne)
 
   -- Nothing is a member of a chain of no headers. A member of another is the first, or one of the rest.
   pub chain-none : (n x : ℕ) → In x (chain hdr 0 n) → ⊥
@@ -106,10 +112,3 @@ module _ (hdr : ℕ → List ℕ) where
             inside = r .inside;
             here = r .here ∙ sym (getD-append-add first (flat hdr l) (i - length first) 0) ∙ ap (λ (k : ℕ). getD (first ++ flat hdr l) k 0) e;
           }
-
-  -- The blocks of a member are among them.
-  pub flat-end : (f n : ℕ) → mEfnu (hdr n) ≡ 0 → flat hdr (chain hdr (suc f) n) ≡ blocksOf (hdr n)
-  flat-end f n e = rw (← add-one f) (file.flat-end hdr f n e)
-
-  pub flat-more : (f n : ℕ) → (mEfnu (hdr n) ≡ 0 → ⊥) → flat hdr (chain hdr (suc f) n) ≡ blocksOf (hdr n) ++ flat hdr (chain hdr f (mEfnu (hdr n)))
-  flat-more f n ne = rw (← add-one f) (file.flat-more hdr f n ne)
