@@ -1,0 +1,13 @@
+pub mod Tests
+pub mod GatherLaws
+pub mod FilesLaws
+pub mod LinksLaws
+pub mod CoverLaws
+pub mod MapLaws
+pub mod HomeLaws
+pub mod ExactLaws
+pub mod CountLaws
+pub mod MemberLaws
+pub mod ChainLaws
+pub mod BlockLaws
+pub mod ApartLaws
