@@ -11,17 +11,27 @@ use lib.Dec.{eqb}
 use lib.ListN.{length, getD, length-append, List·getD-append}
 use lib.Seq.{getD-append-add}
 use Rattle.header.specs.Fields.{mEfnu}
-use Rattle.header.specs.Pointers.{blocksOf}
+use Rattle.image.specs.Blocks.{block}
+use Rattle.answer.specs.declared.outcome.Outcome.the-variants.{Passed}
+use Rattle.header.specs.Pointers.{Fits, blocksOf}
 use Rattle.header.specs.Whole.{fault}
-use Rattle.header.proofs.WholeLaws.{whole-is, whole-inside}
+use Rattle.header.proofs.WholeLaws.{whole-is, whole-fits, whole-inside}
 use Rattle.volume.specs.Home.{blocks}
-use Rattle.volume.specs.Volume.{fmax, hasSlot, header, faultOf, inUse, isNumber}
+use Rattle.volume.specs.Volume.{fmax, slot, slots, hasSlot, header, faultOf, inUse, isNumber}
+use Rattle.volume.specs.Opening.{openVolume}
+use Rattle.volume.proofs.VolumeLaws.{opens, header-length}
 use Rattle.file.specs.Chains.{goodLink, chain, chainOf, every, linkOf, goodChain, flat, fileBlocks}
 use Rattle.file.proofs.LinkLaws.{good-links}
 use Rattle.file.proofs.ChainLaws.{chain-end, chain-more}
 use Rattle.marks.specs.Counts.{count, In}
-use Rattle.marks.proofs.CountLaws.{count-none, count-append, count-at}
-use Rattle.slots.specs.Slots.{gathered}
+use Rattle.marks.specs.Marks.{raisedBy}
+use Rattle.marks.proofs.CountLaws.{count-none, count-append}
+use Rattle.marks.proofs.MarkLaws.{raisedBy-append}
+use Rattle.slots.specs.declared.slots.SlotRun.{SlotRun}
+use Rattle.slots.specs.Slots.{Stands, gathered}
+use Rattle.slots.proofs.SlotLaws.{stands-at, used-range}
+use Rattle.numbers.specs.Files.{files}
+use Rattle.numbers.proofs.FileLaws.{FilesPassed, files-passed}
 use Rattle.covers.specs.Covered.{Ends, covered}
 
 -- The pointers of a whole header end below the number of blocks, and so within an area that has a byte for each block.
@@ -127,3 +137,35 @@ module _ (image : List ℕ) (good : (n : ℕ) → inUse image n ≡ true → goo
   pub file-covered : (low : (n : ℕ) → inUse image n ≡ true → (1 ≤ n) × (n ≤ fmax image)) (n j : ℕ) → inUse image n ≡ true → In j (fileBlocks image n) → In j (covered image)
   unfolding fileBlocks chainOf
   file-covered low n j u i = flat-covered low j 256 n u i
+
+-- A walk over the slots that stands at a number with a slot stands at that slot.
+pub stands-slot : (image : List ℕ) (n : ℕ) (run : SlotRun) → Stands image n run → n ≤ slots image → block image (run .lbn .0) ≡ header image n
+unfolding header
+stands-slot image n run s l = go (decLt 0 (run .left))
+  where
+    go : Dec (0 < run .left) → block image (run .lbn .0) ≡ block image (slot image n)
+    go (yes m) = ap (block image) (sym (stands-at image n run s m .1))
+    go (no m) = absurd (omega (arith, s .none (omega arith)))
+
+-- The headers in use on a volume that opens and passes FILES.
+module _ (image : List ℕ) (o : openVolume image ≡ Passed) (f : files image ≡ Passed) where
+  pub passes : FilesPassed image
+  passes = files-passed image (opens image o .enough) f
+
+  pub used-fits : (n : ℕ) → inUse image n ≡ true → Fits (header image n)
+  unfolding faultOf
+  used-fits n u = whole-fits (blocks image) n (header image n) (header-length (opens image o) n (used-range image n u .0) (passes .slotted n u)) (passes .whole n u)
+
+  pub used-ends : (n k : ℕ) → inUse image n ≡ true → blocks image ≤ k → Ends k (header image n)
+  unfolding faultOf
+  used-ends n k u l = whole-ends n k (header image n) (blocks image) (passes .whole n u) l
+
+-- One more number of a pass over the headers in use, from number n on.
+pub raised-more : (image area : List ℕ) (n : ℕ) → 1 ≤ n
+    → raisedBy (raisedBy area (gathered image blocksOf (n - 1))) (cond (inUse image n) (blocksOf (header image n)) []) ≡ raisedBy area (gathered image blocksOf (n + 1 - 1))
+unfolding gathered
+raised-more image area zero l = absurd (omega arith)
+raised-more image area (suc m) l =
+    let now : suc m - 1 ≡ m = omega arith in
+    let next : suc m + 1 - 1 ≡ suc m = omega arith in
+    rw (now, next) (sym (raisedBy-append area (gathered image blocksOf m) (cond (inUse image (suc m)) (blocksOf (header image (suc m))) [])))

@@ -1,1 +1,3 @@
 // TWICE, BADHOME and MAP: what the verdict asks of the blocks that headers in use cover.
+
+pub mod covered;

@@ -1,0 +1,110 @@
+-- Before number n the blocks of the headers in use below it are raised, and the run stands at n.
+use mathlib.Core.Path.{_≡_, refl, sym, ap, ap₂, _∙_}
+use mathlib.Core.Bool.{cond}
+use mathlib.Core.List.{List, []}
+use Prim.Native.Nat.{ℕ, _+_, _-_, _≤_, _<_}
+use native.Mathlib.Omega.{arith}
+use denote.Ref.{now}
+use lib.Dec.{eqb}
+use lib.ListN.{length}
+use Rattle.image.specs.Words.{Bytes}
+use Rattle.image.specs.Bits.{bitAt}
+use Rattle.header.specs.Pointers.{blocksOf}
+use Rattle.volume.specs.Volume.{fmax, header, indexMap, inUse}
+use Rattle.volume.proofs.VolumeLaws.{opens, says, fmax-below}
+use Rattle.marks.specs.Marks.{raisedBy}
+use Rattle.marks.proofs.MarkLaws.{raisedBy-none, raisedBy-length}
+use Rattle.slots.specs.Slots.{Stands, gathered}
+use Rattle.slots.proofs.SlotLaws.{gathered-none, index-map-read, in-use-bit, bit-inside}
+use Rattle.covers.specs.Covered.{covered}
+use Rattle.covers.proofs.CoverLaws.{raised-more}
+use borrow.Author.Needs.{needs}
+use Rattle.covers.proofs.covered.raise_headers.Statement.{statement}
+use Rattle.covers.proofs.covered.raise_headers.Tie as tie
+use Rattle.covers.proofs.covered.raise_headers.Reads as reads
+use Rattle.covers.proofs.covered.raise_headers.Lts as lts
+use Rattle.covers.proofs.covered.raise_number.Reads as raise-number-reads
+use Rattle.image.proofs.bits.bit_at.Reads as bit-at-reads
+use Rattle.image.proofs.blocks.region.Reads as region-reads
+use Rattle.slots.proofs.slots.next_run.Reads as next-run-reads
+use Rattle.slots.proofs.slots.slot_run.Reads as slot-run-reads
+
+abbrev Inv-loop : tie.InvT-loop
+Inv-loop image v area₀ map fmax n₀ run₀ area n run =
+    (1 ≤ n) × (n ≤ fmax + 1) × (length area ≡ length area₀) × (area ≡ raisedBy area₀ (gathered image blocksOf (n - 1))) × Stands image n run
+
+abbrev μ-loop : tie.MeasureT-loop
+μ-loop image v area₀ map fmax n₀ run₀ area n run = fmax + 1 - n
+
+module _ (l : tie.At-loop Inv-loop μ-loop) where
+  abbrev s : tie.Start Inv-loop μ-loop
+  s = l .before .before .before .before .before
+
+  abbrev image : List ℕ
+  image = now (s .args .image)
+
+  last : s .args .v .fmax ≡ fmax image
+  last = says image (s .args .v) (s .pre .0 .1) .fmax
+
+  small : fmax image < 65536
+  small = fmax-below image (record { each = λ i. omega (arith, l .before .before .before .before .shared-slice-known .given i) })
+
+  map : now (l .before .before .region .result) ≡ indexMap image
+  map = l .before .before .region .ensures ∙ index-map-read image (s .args .v) (s .pre .0)
+
+-- The bit that was read is that of the number at hand.
+used : (c : tie.After-bit-at Inv-loop μ-loop) → eqb (c .bit-at .result) 1 ≡ inUse (image (c .before .before)) (c .before .before .loop .n)
+used c =
+    let l = c .before .before in
+    let n = l .loop .n in
+    ap (λ (b : ℕ). eqb b 1) (c .bit-at .ensures ∙ ap (λ (m : List ℕ). bitAt m (n - 1)) (map l))
+    ∙ sym (in-use-bit (image l) n (l .loop .inv .0) (omega (arith, last l)))
+
+slot-run-requires : tie.Need-slot-run-requires Inv-loop μ-loop
+slot-run-requires c κs = (c .before .before .before .pre .0, omega arith)
+
+loop-holds : tie.Need-loop-holds Inv-loop μ-loop
+loop-holds c = (search needs, search needs, refl, sym (ap (raisedBy _) (gathered-none _ _) ∙ raisedBy-none _), c .slot-run .ensures)
+
+bit-at-requires : tie.Need-bit-at-requires Inv-loop μ-loop
+bit-at-requires c κs =
+    let l = c .before in
+    rw (map l) (bit-inside (image l) (l .loop .n) (opens (image l) (s l .pre .0 .0)) (l .loop .inv .0) (omega (arith, last l)))
+
+raise-number-requires : tie.Need-raise-number-requires Inv-loop μ-loop
+raise-number-requires c κs =
+    let l = c .before .before .before in
+    (s l .pre .0 .0, s l .pre .1, omega (arith, s l .pre .2, l .loop .inv .2), used (c .before), l .loop .inv .4)
+
+next-run-requires : tie.Need-next-run-requires Inv-loop μ-loop
+next-run-requires c κs =
+    let l = c .before .before .before .before .before .before in
+    (s l .pre .0, l .loop .inv .4, omega (arith, last l, small l))
+
+add-n : tie.Need-add-n Inv-loop μ-loop
+add-n c =
+    let l = c .before .before .before .before .before .before .before in
+    omega (arith, last l, small l)
+
+loop-again : tie.Need-loop-again Inv-loop μ-loop
+loop-again c =
+    let l = c .before .before .before .before .before .before .before in
+    let d = c .before .before .before in
+    let more = cond (inUse (image l) (l .loop .n)) (blocksOf (header (image l) (l .loop .n))) [] in
+    (
+      search needs,
+      search needs,
+      ap length (d .raise-number .ensures) ∙ raisedBy-length (l .loop .area) more ∙ l .loop .inv .2,
+      d .raise-number .ensures ∙ ap (λ (m : List ℕ). raisedBy m more) (l .loop .inv .3) ∙ raised-more (image l) (now (s l .args .area)) (l .loop .n) (l .loop .inv .0),
+      c .next-run .ensures,
+    )
+
+returns : tie.Need-returns Inv-loop μ-loop
+unfolding covered
+returns c =
+    let l = c .before in
+    let e : l .loop .n - 1 ≡ fmax (image l) = omega (arith, last l) in
+    l .loop .inv .3 ∙ ap (λ (k : ℕ). raisedBy (now (s l .args .area)) (gathered (image l) blocksOf k)) e
+
+pub raise-headers-spec : {M : Type 1} → statement M
+raise-headers-spec = tie.close (tie.spec Inv-loop μ-loop (search needs) slot-run-requires loop-holds (search needs) (search needs) bit-at-requires raise-number-requires next-run-requires add-n (search needs) loop-again (search needs) returns)
