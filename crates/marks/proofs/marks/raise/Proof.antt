@@ -1,0 +1,15 @@
+-- The mark that is stored is the one read, raised.
+use Rattle.marks.specs.Marks.{raised}
+use borrow.Author.Needs.{needs}
+use Rattle.marks.proofs.marks.raise.Statement.{statement}
+use Rattle.marks.proofs.marks.raise.Tie as tie
+use Rattle.marks.proofs.marks.raise.Reads as reads
+use Rattle.marks.proofs.marks.raise.Lts as lts
+use Rattle.marks.proofs.marks.raised_mark.Reads as raised-mark-reads
+
+returns : tie.Need-returns
+unfolding raised
+returns c = rw (c .raised-mark .ensures)
+
+pub raise-spec : {M : Type 1} → statement M
+raise-spec = tie.close (tie.spec (search needs) (search needs) (search needs) (search needs) returns)

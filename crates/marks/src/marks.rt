@@ -1,0 +1,95 @@
+// The marks of a work area: counts that are capped at 2, a byte each.
+ghost use mathlib.Core.Path.{_≡_};
+ghost use Prim.Native.Nat.{_+_, _^_, _≤_, _<_, min};
+ghost use lib.ListN.{length};
+ghost use Rattle.image.specs.First.{first};
+ghost use Rattle.image.specs.Stores.{numbersFrom};
+ghost use Rattle.marks.specs.Counts.{howMany};
+ghost use Rattle.marks.specs.Marks.{cleared, raised, raisedBy, lowered, markedTwice, marked};
+
+// The first k marks 0.
+pub fn clear_first(area: &mut [u8], k: usize)
+    requires { ⌜ k ≤ length (now area) ⌝ }
+    ensures { λ _. ⌜ now (area .exit) ≡ cleared (now (area .entry)) k ⌝ }
+{
+    let mut i: usize = 0;
+    while i < k {
+        area[i] = 0;
+        i += 1;
+    }
+}
+
+// A mark raised by one, capped at 2.
+fn raised_mark(m: u8) -> u8
+    ensures { λ r. ⌜ r ≡ min 2 (m + 1) ⌝ }
+{
+    if m < 2 { m + 1 } else { 2 }
+}
+
+// Mark i raised by one, capped at 2.
+pub fn raise(area: &mut [u8], i: usize)
+    requires { ⌜ i < length (now area) ⌝ }
+    ensures { λ _. ⌜ now (area .exit) ≡ raised (now (area .entry)) i ⌝ }
+{
+    area[i] = raised_mark(area[i]);
+}
+
+// The c marks from mark s on, each raised by one, capped at 2.
+pub fn raise_run(area: &mut [u8], s: usize, c: usize)
+    requires { ⌜ (s + c ≤ length (now area)) × (s + c < 2 ^ 64) ⌝ }
+    ensures { λ _. ⌜ now (area .exit) ≡ raisedBy (now (area .entry)) (numbersFrom s c) ⌝ }
+{
+    let mut i: usize = 0;
+    while i < c {
+        raise(area, s + i);
+        i += 1;
+    }
+}
+
+// A mark capped at 1.
+fn lowered_mark(m: u8) -> u8
+    ensures { λ r. ⌜ r ≡ min 1 m ⌝ }
+{
+    if m < 1 { 0 } else { 1 }
+}
+
+// The first k marks capped at 1.
+pub fn lower_first(area: &mut [u8], k: usize)
+    requires { ⌜ k ≤ length (now area) ⌝ }
+    ensures { λ _. ⌜ now (area .exit) ≡ lowered (now (area .entry)) k ⌝ }
+{
+    let mut i: usize = 0;
+    while i < k {
+        area[i] = lowered_mark(area[i]);
+        i += 1;
+    }
+}
+
+// The first of k marks that says "covered by two places"; k where none does.
+pub fn first_twice(area: &[u8], k: usize) -> usize
+    requires { ⌜ k ≤ length (now area) ⌝ }
+    ensures { λ r. ⌜ r ≡ first (markedTwice (now (area .entry))) 0 k ⌝ }
+{
+    let mut i: usize = 0;
+    while i < k {
+        if 2 <= area[i] {
+            return i;
+        }
+        i += 1;
+    }
+    i
+}
+
+// How many of the first k marks say "covered".
+pub fn count_marked(area: &[u8], k: usize) -> u32
+    requires { ⌜ (k ≤ length (now area)) × (k < 2 ^ 32) ⌝ }
+    ensures { λ r. ⌜ r ≡ howMany (marked (now (area .entry))) 0 k ⌝ }
+{
+    let mut total: u32 = 0;
+    let mut i: usize = 0;
+    while i < k {
+        total += lowered_mark(area[i]) as u32;
+        i += 1;
+    }
+    total
+}
