@@ -42,7 +42,7 @@ pub enum Chain {
 }
 
 // The slot of a number, if it is in use and has one.
-pub(crate) fn slot_in_use(image: &[u8], v: Volume, n: FileNumber) -> Slot
+pub fn slot_in_use(image: &[u8], v: Volume, n: FileNumber) -> Slot
     requires { ⌜ Open (now image) v ⌝ }
     ensures { λ r. ⌜ r ≡ slotInUse (now (image .entry)) (n .0) ⌝ }
 {
