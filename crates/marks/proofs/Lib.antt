@@ -1,3 +1,4 @@
 pub mod SumLaws
 pub mod CountLaws
 pub mod MarkLaws
+pub mod MapLaws

@@ -8,8 +8,6 @@ use Rattle.marks.proofs.MarkLaws.{cleared-none, cleared-more}
 use borrow.Author.Needs.{needs}
 use Rattle.marks.proofs.marks.clear_first.Statement.{statement}
 use Rattle.marks.proofs.marks.clear_first.Tie as tie
-use Rattle.marks.proofs.marks.clear_first.Reads as reads
-use Rattle.marks.proofs.marks.clear_first.Lts as lts
 
 abbrev Inv-loop : tie.InvT-loop
 Inv-loop area₀ k i₀ area i = (i ≤ k) × (length area ≡ length area₀) × (area ≡ cleared area₀ i)

@@ -9,9 +9,6 @@ use Rattle.marks.proofs.MarkLaws.{marked-one}
 use borrow.Author.Needs.{needs}
 use Rattle.marks.proofs.marks.count_marked.Statement.{statement}
 use Rattle.marks.proofs.marks.count_marked.Tie as tie
-use Rattle.marks.proofs.marks.count_marked.Reads as reads
-use Rattle.marks.proofs.marks.count_marked.Lts as lts
-use Rattle.marks.proofs.marks.lowered_mark.Reads as lowered-mark-reads
 
 abbrev Inv-loop : tie.InvT-loop
 Inv-loop area k total₀ i₀ total i = (i ≤ k) × (total ≤ i) × (total ≡ howMany (marked area) 0 i)

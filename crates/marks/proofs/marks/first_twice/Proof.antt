@@ -10,8 +10,6 @@ use denote.Ref.{now}
 use borrow.Author.Needs.{needs}
 use Rattle.marks.proofs.marks.first_twice.Statement.{statement}
 use Rattle.marks.proofs.marks.first_twice.Tie as tie
-use Rattle.marks.proofs.marks.first_twice.Reads as reads
-use Rattle.marks.proofs.marks.first_twice.Lts as lts
 
 abbrev Inv-loop : tie.InvT-loop
 Inv-loop area k i₀ i = (i ≤ k) × (first (markedTwice area) 0 k ≡ first (markedTwice area) i (k - i))

@@ -9,9 +9,6 @@ use Rattle.marks.proofs.MarkLaws.{lowered-none, lowered-next, lowered-m
 use borrow.Author.Needs.{needs}
 use Rattle.marks.proofs.marks.lower_first.Statement.{statement}
 use Rattle.marks.proofs.marks.lower_first.Tie as tie
-use Rattle.marks.proofs.marks.lower_first.Reads as reads
-use Rattle.marks.proofs.marks.lower_first.Lts as lts
-use Rattle.marks.proofs.marks.lowered_mark.Reads as lowered-mark-reads
 
 abbrev Inv-loop : tie.InvT-loop
 Inv-loop area₀ k i₀ area i = (i ≤ k) × (length area ≡ length area₀) × (area ≡ lowered area₀ i)

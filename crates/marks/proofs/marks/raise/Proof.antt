@@ -3,9 +3,6 @@ use Rattle.marks.specs.Marks.{raised}
 use borrow.Author.Needs.{needs}
 use Rattle.marks.proofs.marks.raise.Statement.{statement}
 use Rattle.marks.proofs.marks.raise.Tie as tie
-use Rattle.marks.proofs.marks.raise.Reads as reads
-use Rattle.marks.proofs.marks.raise.Lts as lts
-use Rattle.marks.proofs.marks.raised_mark.Reads as raised-mark-reads
 
 returns : tie.Need-returns
 unfolding raised

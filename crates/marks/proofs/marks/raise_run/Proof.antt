@@ -9,9 +9,6 @@ use Rattle.marks.proofs.MarkLaws.{raisedRun-none, raisedRun-more}
 use borrow.Author.Needs.{needs}
 use Rattle.marks.proofs.marks.raise_run.Statement.{statement}
 use Rattle.marks.proofs.marks.raise_run.Tie as tie
-use Rattle.marks.proofs.marks.raise_run.Reads as reads
-use Rattle.marks.proofs.marks.raise_run.Lts as lts
-use Rattle.marks.proofs.marks.raise.Reads as raise-reads
 
 abbrev Inv-loop : tie.InvT-loop
 Inv-loop area₀ s c i₀ area i = (i ≤ c) × (length area ≡ length area₀) × (area ≡ raisedBy area₀ (numbersFrom s i))

@@ -1,0 +1,23 @@
+-- Below n and from n on are searched one after the other.
+use mathlib.Core.Path.{sym, _∙_}
+use native.Mathlib.Omega.{arith}
+use denote.Ref.{now}
+use Rattle.marks.proofs.MapLaws.{unlike-found, unlike-past}
+use borrow.Author.Needs.{needs}
+use Rattle.marks.proofs.maps.first_unlike.Statement.{statement}
+use Rattle.marks.proofs.maps.first_unlike.Tie as tie
+
+returns : tie.Need-returns
+returns c =
+    let a = c .before .before .before .before .args in
+    let e = c .before .first-unlike-below .ensures in
+    e ∙ sym (unlike-found (now (a .map)) (now (a .area)) (a .n) (a .end) (omega arith) (rw (← e) (c .if1 .taken)))
+
+returns-2 : tie.Need-returns-2
+returns-2 c =
+    let a = c .before .before .before .before .before .args in
+    let e = c .before .before .first-unlike-below .ensures in
+    c .first-set .ensures ∙ sym (unlike-past (now (a .map)) (now (a .area)) (a .n) (a .end) (omega arith) (rw (← e) (c .before .if1 .left)))
+
+pub first-unlike-spec : {M : Type 1} → statement M
+first-unlike-spec = tie.close (tie.spec (search needs) returns (search needs) returns-2)

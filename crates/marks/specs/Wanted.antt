@@ -1,0 +1,22 @@
+-- What the marks of a work area want of a map, a bit and a byte at a time.
+use mathlib.Core.List.{List}
+use Prim.Native.Nat.{ℕ, _+_, _*_}
+use lib.Dec.{eqb}
+use Rattle.image.specs.Words.{byteAt}
+use Rattle.marks.specs.Counts.{oneIf}
+
+-- The bit that mark j wants. 01, The verdict: "below N set exactly if covered by none".
+unfoldable pub wantedBit : List ℕ → ℕ → ℕ
+wantedBit area j = oneIf (eqb (byteAt area j) 0)
+
+-- The byte that the eight marks from mark j on want.
+unfoldable pub wantedByte : List ℕ → ℕ → ℕ
+wantedByte area j =
+    wantedBit area j
+    + 2 * wantedBit area (j + 1)
+    + 4 * wantedBit area (j + 2)
+    + 8 * wantedBit area (j + 3)
+    + 16 * wantedBit area (j + 4)
+    + 32 * wantedBit area (j + 5)
+    + 64 * wantedBit area (j + 6)
+    + 128 * wantedBit area (j + 7)

@@ -1,0 +1,155 @@
+// The bits of a map: against the marks of a work area, and counted.
+use image::bits::bit_at;
+ghost use mathlib.Core.Path.{_≡_};
+ghost use Prim.Native.Nat.{_+_, _*_, _-_, _^_, _≤_, _<_};
+ghost use lib.Dec.{eqb};
+ghost use lib.ListN.{length};
+ghost use lib.Count.{ones};
+ghost use Rattle.image.specs.First.{first};
+ghost use Rattle.marks.specs.Counts.{oneIf, howMany};
+ghost use Rattle.marks.specs.Marks.{isSet, unlikeMarks};
+ghost use Rattle.marks.specs.Wanted.{wantedByte};
+
+// The bit that a mark wants, with its weight w.
+fn weighed(m: u8, w: u8) -> u8
+    ensures { λ r. ⌜ (r ≡ w * oneIf (eqb m 0)) × (r ≤ w) ⌝ }
+{
+    if m == 0 { w } else { 0 }
+}
+
+// The first bit from one place to before n that is not as its mark wants it; n where there is none.
+fn first_unlike_bit(map: &[u8], area: &[u8], from: usize, n: usize) -> usize
+    requires { ⌜ (n ≤ length (now area)) × (n ≤ 8 * length (now map)) × (from ≤ n) ⌝ }
+    ensures { λ r. ⌜ r ≡ first (unlikeMarks (now (map .entry)) (now (area .entry)) n) from (n - from) ⌝ }
+{
+    let mut j = from;
+    while j < n {
+        let wanted = weighed(area[j], 1);
+        let unlike = bit_at(map, j) != wanted;
+        if unlike {
+            return j;
+        }
+        j += 1;
+    }
+    j
+}
+
+// The byte that the eight marks from mark j on want.
+fn wanted_byte(area: &[u8], j: usize) -> u8
+    requires { ⌜ j + 8 ≤ length (now area) ⌝ }
+    ensures { λ r. ⌜ r ≡ wantedByte (now (area .entry)) j ⌝ }
+{
+    weighed(area[j], 1)
+        + weighed(area[j + 1], 2)
+        + weighed(area[j + 2], 4)
+        + weighed(area[j + 3], 8)
+        + weighed(area[j + 4], 16)
+        + weighed(area[j + 5], 32)
+        + weighed(area[j + 6], 64)
+        + weighed(area[j + 7], 128)
+}
+
+// How many whole bytes of the first n bits are passed until one is not as its marks want it: the first bit that is not lies behind them.
+fn like_bytes(map: &[u8], area: &[u8], n: usize) -> usize
+    requires { ⌜ (n ≤ length (now area)) × (n ≤ 8 * length (now map)) ⌝ }
+    ensures { λ r. ⌜ (8 * r ≤ n) × (first (unlikeMarks (now (map .entry)) (now (area .entry)) n) 0 n ≡ first (unlikeMarks (now (map .entry)) (now (area .entry)) n) (8 * r) (n - 8 * r)) ⌝ }
+{
+    let mut i: usize = 0;
+    while i < n / 8 {
+        let wanted = wanted_byte(area, 8 * i);
+        if map[i] != wanted {
+            return i;
+        }
+        i += 1;
+    }
+    i
+}
+
+// The first bit before n that is not as its mark wants it; n where there is none.
+fn first_unlike_below(map: &[u8], area: &[u8], n: usize) -> usize
+    requires { ⌜ (n ≤ length (now area)) × (n ≤ 8 * length (now map)) ⌝ }
+    ensures { λ r. ⌜ r ≡ first (unlikeMarks (now (map .entry)) (now (area .entry)) n) 0 n ⌝ }
+{
+    let q = like_bytes(map, area, n);
+    first_unlike_bit(map, area, 8 * q, n)
+}
+
+// The first bit from one place to before another that is set; the second place where none is.
+fn first_set(map: &[u8], from: usize, end: usize) -> usize
+    requires { ⌜ (end ≤ 8 * length (now map)) × (from ≤ end) ⌝ }
+    ensures { λ r. ⌜ r ≡ first (isSet (now (map .entry))) from (end - from) ⌝ }
+{
+    let mut j = from;
+    while j < end {
+        let set = bit_at(map, j) == 1;
+        if set {
+            return j;
+        }
+        j += 1;
+    }
+    j
+}
+
+// The first bit before the end that is not as the marks of n blocks want it; the end where there is none.
+pub fn first_unlike(map: &[u8], area: &[u8], n: usize, end: usize) -> usize
+    requires { ⌜ (n ≤ length (now area)) × (n ≤ end) × (end ≤ 8 * length (now map)) × (end < 2 ^ 63) ⌝ }
+    ensures { λ r. ⌜ r ≡ first (unlikeMarks (now (map .entry)) (now (area .entry)) n) 0 end ⌝ }
+{
+    let found = first_unlike_below(map, area, n);
+    if found < n {
+        return found;
+    }
+    first_set(map, n, end)
+}
+
+// How many bits of a byte are set.
+fn ones_of(b: u8) -> u32
+    ensures { λ r. ⌜ r ≡ ones b ⌝ }
+{
+    u8::count_ones(b)
+}
+
+// How many bits of the first q bytes are set.
+fn count_bytes(map: &[u8], q: usize) -> u32
+    requires { ⌜ (q ≤ length (now map)) × (8 * q < 2 ^ 32) ⌝ }
+    ensures { λ r. ⌜ (r ≡ howMany (isSet (now (map .entry))) 0 (8 * q)) × (r ≤ 8 * q) ⌝ }
+{
+    let mut total: u32 = 0;
+    let mut i: usize = 0;
+    while i < q {
+        total += ones_of(map[i]);
+        i += 1;
+    }
+    total
+}
+
+// How many bits from one place to before another are set.
+fn count_bits(map: &[u8], from: usize, to: usize) -> u32
+    requires { ⌜ (to ≤ 8 * length (now map)) × (from ≤ to) × (to < 2 ^ 32) ⌝ }
+    ensures { λ r. ⌜ (r ≡ howMany (isSet (now (map .entry))) from (to - from)) × (r ≤ to - from) ⌝ }
+{
+    let mut total: u32 = 0;
+    let mut j = from;
+    while j < to {
+        total += bit_at(map, j) as u32;
+        j += 1;
+    }
+    total
+}
+
+// How many bits are set.
+pub fn count_set(map: &[u8]) -> u32
+    requires { ⌜ 8 * length (now map) < 2 ^ 32 ⌝ }
+    ensures { λ r. ⌜ r ≡ howMany (isSet (now (map .entry))) 0 (8 * length (now (map .entry))) ⌝ }
+{
+    count_bytes(map, map.len())
+}
+
+// How many of the first n bits are set.
+pub fn count_first_set(map: &[u8], n: usize) -> u32
+    requires { ⌜ (n ≤ 8 * length (now map)) × (n < 2 ^ 32) ⌝ }
+    ensures { λ r. ⌜ r ≡ howMany (isSet (now (map .entry))) 0 n ⌝ }
+{
+    let q = n / 8;
+    count_bytes(map, q) + count_bits(map, 8 * q, n)
+}

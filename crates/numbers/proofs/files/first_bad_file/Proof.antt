@@ -1,0 +1,101 @@
+-- The loop is at n while none of the numbers below n offends, and its run of slots stands at n.
+use borrow.Author.Needs.{needs}
+use native.Mathlib.Omega.{arith}
+use mathlib.Core.Path.{_≡_, sym, ap, _∙_}
+use Prim.Native.Nat.{_+_, _-_, _≤_, _<_}
+use denote.Ref.{now}
+use lib.Dec.{eqb}
+use Rattle.image.specs.First.{first}
+use Rattle.image.proofs.First.{first-here, first-on, first-none}
+use Rattle.volume.specs.Volume.{fmax, indexMap, inUse}
+use Rattle.volume.proofs.VolumeLaws.{opens, says, fmax-below}
+use Rattle.slots.specs.Slots.{Stands}
+use Rattle.slots.proofs.SlotLaws.{index-map-read, in-use-bit, bit-inside}
+use Rattle.numbers.specs.Files.{badFile, filesPlace}
+use Rattle.numbers.proofs.files.first_bad_file.Statement.{statement}
+use Rattle.numbers.proofs.files.first_bad_file.Tie as tie
+
+abbrev Inv-loop : tie.InvT-loop
+Inv-loop image v map run₀ n₀ run n = (1 ≤ n) × (n ≤ v .fmax + 1) × Stands image n run × (filesPlace image ≡ first (badFile image) n (v .fmax + 1 - n))
+
+abbrev μ-loop : tie.MeasureT-loop
+μ-loop image v map run₀ n₀ run n = v .fmax + 1 - n
+
+most : (c : tie.After-shared-slice-known Inv-loop μ-loop) → (c .before .args .v .fmax ≡ fmax (now (c .before .args .image))) × (c .before .args .v .fmax < 65536)
+most c =
+    let s = c .before in
+    let e = says (now (s .args .image)) (s .args .v) (s .pre .1) .fmax in
+    (e, omega (arith, e, fmax-below (now (s .args .image)) (record { each = λ i. omega (arith, c .shared-slice-known .given i) })))
+
+map-read : (c : tie.After-region Inv-loop μ-loop) → now (c .region .result) ≡ indexMap (now (c .before .before .args .image))
+map-read c =
+    let s = c .before .before in
+    c .region .ensures ∙ index-map-read (now (s .args .image)) (s .args .v) (s .pre)
+
+used : (c : tie.After-bit-at Inv-loop μ-loop)
+    → let l = c .before .before .before in
+    eqb (c .bit-at .result) 1 ≡ inUse (now (l .before .before .before .before .args .image)) (l .loop .n)
+used c =
+    let l = c .before .before .before in
+    let r = l .before .before in
+    let image = now (r .before .before .args .image) in
+    rw (in-use-bit image (l .loop .n) (omega arith) (omega (arith, most (r .before))), ← map-read r, ← c .bit-at .ensures)
+
+loop-holds : tie.Need-loop-holds Inv-loop μ-loop
+unfolding filesPlace
+loop-holds c =
+    let k = c .before .before in
+    let image = now (k .before .args .image) in
+    (omega arith, omega arith, c .slot-run .ensures, ap (first (badFile image) 1) (omega (arith, most k)))
+
+slot-run-requires : tie.Need-slot-run-requires Inv-loop μ-loop
+slot-run-requires c κs = (c .before .before .pre, omega arith)
+
+bit-at-requires : tie.Need-bit-at-requires Inv-loop μ-loop
+bit-at-requires c κs =
+    let l = c .before .before in
+    let r = l .before .before in
+    let s = r .before .before in
+    rw (map-read r) (bit-inside (now (s .args .image)) (l .loop .n) (opens (now (s .args .image)) (s .pre .0)) (omega arith) (omega (arith, most (r .before))))
+
+is-bad-file-requires : tie.Need-is-bad-file-requires Inv-loop μ-loop
+is-bad-file-requires c κs =
+    let l = c .before .before .before in
+    (l .before .before .before .before .pre, l .loop .inv .2, used c, omega arith)
+
+next-run-requires : tie.Need-next-run-requires Inv-loop μ-loop
+next-run-requires c κs =
+    let l = c .before .before .before .before .before in
+    let k = l .before .before .before in
+    (k .before .pre, l .loop .inv .2, omega (arith, most k))
+
+add-n : tie.Need-add-n Inv-loop μ-loop
+add-n c = omega (arith, most (c .before .before .before .before .before .before .before .before .before))
+
+returns : tie.Need-returns Inv-loop μ-loop
+returns c =
+    let f = c .before in
+    let l = f .before .before .before .before in
+    let a = l .before .before .before .before .args in
+    sym (l .loop .inv .3 ∙ first-here (badFile (now (a .image))) (l .loop .n) (a .v .fmax + 1) (omega arith) (sym (f .is-bad-file .ensures) ∙ c .if2 .taken))
+
+loop-again : tie.Need-loop-again Inv-loop μ-loop
+loop-again c =
+    let e = c .before in
+    let f = e .before in
+    let l = f .before .before .before .before in
+    let a = l .before .before .before .before .args in (
+      omega arith,
+      omega arith,
+      c .next-run .ensures,
+      l .loop .inv .3 ∙ first-on (badFile (now (a .image))) (l .loop .n) (a .v .fmax + 1) (omega arith) (sym (f .is-bad-file .ensures) ∙ e .if2 .left),
+    )
+
+returns-2 : tie.Need-returns-2 Inv-loop μ-loop
+returns-2 c =
+    let l = c .before .before in
+    let a = l .before .before .before .before .args in
+    sym (l .loop .inv .3 ∙ first-none (badFile (now (a .image))) (l .loop .n) (a .v .fmax + 1) (omega arith))
+
+pub first-bad-file-spec : {M : Type 1} → statement M
+first-bad-file-spec = tie.close (tie.spec Inv-loop μ-loop (search needs) slot-run-requires loop-holds (search needs) (search needs) bit-at-requires is-bad-file-requires returns next-run-requires add-n (search needs) loop-again returns-2)

@@ -1,0 +1,88 @@
+// FILES: the lowest file number that offends, and the unmet test of its header.
+use answer::outcome::Outcome;
+use answer::refusal::Refusal;
+use answer::types::FileNumber;
+use file::chains::slot_in_use;
+use header::fields::h_fseq;
+use header::fields::segment;
+use header::whole::fault;
+use image::bits::bit_at;
+use image::blocks::block;
+use image::blocks::region;
+use slots::slots::SlotRun;
+use slots::slots::next_run;
+use slots::slots::slot_run;
+use volume::volume::Slot;
+use volume::volume::Volume;
+ghost use mathlib.Core.Path.{_≡_};
+ghost use Prim.Native.Nat.{_≤_};
+ghost use Rattle.volume.specs.Volume.{inUse};
+ghost use Rattle.volume.specs.Opening.{Open};
+ghost use Rattle.slots.specs.Slots.{Stands};
+ghost use Rattle.numbers.specs.Files.{badFile, unmetOf, filesPlace, files};
+
+// Whether number n offends. A number that is in use, or known, must have a whole header; a known one its own number as sequence, and segment 0.
+fn is_bad_file(image: &[u8], v: Volume, n: FileNumber, used: bool, run: SlotRun) -> bool
+    requires { ⌜ Open (now image) v × Stands (now image) (n .0) run × (used ≡ inUse (now image) (n .0)) × (1 ≤ n .0) ⌝ }
+    ensures { λ r. ⌜ r ≡ badFile (now (image .entry)) (n .0) ⌝ }
+{
+    let number = n.0;
+    if !used {
+        return number <= 5;
+    }
+    if run.left == 0 {
+        return true;
+    }
+    let h = block(image, run.lbn.0);
+    if fault(h, v.blocks, number) != 0 {
+        return true;
+    }
+    if 5 < number {
+        return false;
+    }
+    ((h_fseq(h) as u32) != number) | (segment(h) != 0)
+}
+
+// The lowest number that offends; H.FMAX + 1 where there is none.
+fn first_bad_file(image: &[u8], v: Volume) -> u32
+    requires { ⌜ Open (now image) v ⌝ }
+    ensures { λ r. ⌜ r ≡ filesPlace (now (image .entry)) ⌝ }
+{
+    let map = region(image, v.iblb, v.ibsz);
+    let mut run = slot_run(image, v, FileNumber(1));
+    let mut n: u32 = 1;
+    while n <= v.fmax {
+        let used = bit_at(map, (n - 1) as usize) == 1;
+        if is_bad_file(image, v, FileNumber(n), used, run) {
+            return n;
+        }
+        run = next_run(image, v, FileNumber(n), run);
+        n += 1;
+    }
+    n
+}
+
+// The first test that the header of a number does not meet; 0 where the number is not in use, has no slot or its header is whole.
+fn unmet_of(image: &[u8], v: Volume, n: FileNumber) -> u8
+    requires { ⌜ Open (now image) v ⌝ }
+    ensures { λ r. ⌜ r ≡ unmetOf (now (image .entry)) (n .0) ⌝ }
+{
+    let place = slot_in_use(image, v, n);
+    match place {
+        Slot::At(lbn) => fault(block(image, lbn.0), v.blocks, n.0),
+        Slot::Missing => 0,
+    }
+}
+
+// FILES.
+pub fn files(image: &[u8], v: Volume) -> Outcome
+    requires { ⌜ Open (now image) v ⌝ }
+    ensures { λ r. ⌜ r ≡ files (now (image .entry)) ⌝ }
+{
+    let place = first_bad_file(image, v);
+    if v.fmax < place {
+        return Outcome::Passed;
+    }
+    let test = unmet_of(image, v, FileNumber(place));
+    Outcome::Refused(Refusal::Files(place, test))
+}
