@@ -1,8 +1,8 @@
 -- LINKS: what the verdict asks of the links between headers in use.
 use mathlib.Core.Bool.{Bool, cond, not, _&&_}
 use mathlib.Core.List.{List, [], _∷_}
-use Prim.Native.Nat.{ℕ, _+_}
-use lib.Dec.{eqb}
+use Prim.Native.Nat.{ℕ, _+_, _-_}
+use lib.Dec.{eqb, leb}
 use Rattle.image.specs.First.{first}
 use Rattle.answer.specs.declared.refusal.Refusal.the-variants as refusal
 use Rattle.answer.specs.declared.outcome.Outcome.{Outcome}
@@ -11,6 +11,7 @@ use Rattle.header.specs.Fields.{segment, mEfnu}
 use Rattle.volume.specs.Volume.{fmax, header, inUse}
 use Rattle.file.specs.Chains.{goodLink}
 use Rattle.marks.specs.Counts.{count}
+use Rattle.marks.specs.Marks.{raised}
 use Rattle.slots.specs.Slots.{gathered}
 
 -- M.EFNU of a header, as a list.
@@ -20,6 +21,11 @@ linkOf h = mEfnu h ∷ []
 -- M.EFNU of each header in use. 01, The verdict: "the number of headers in use whose M.EFNU is n" is how often n stands in this list.
 unfoldable pub linked : List ℕ → List ℕ
 linked image = gathered image linkOf (fmax image)
+
+-- The marks of numbers 1 to k with that of number t raised, if t is one of them. 01, The verdict: "header mark n−1 is the number of headers in use
+-- whose M.EFNU is n".
+unfoldable pub raisedLink : List ℕ → ℕ → ℕ → List ℕ
+raisedLink area k t = cond (leb 1 t && leb t k) (raised area (t - 1)) area
 
 -- 01, The verdict: "linked by others a number of times that is not 0 (segment 0) or 1 (above 0)". How often a header must be linked.
 unfoldable pub linksWanted : List ℕ → ℕ

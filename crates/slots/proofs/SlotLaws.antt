@@ -4,10 +4,12 @@ use mathlib.Core.Bool.{true, false, _&&_, and-eq-true-iff}
 use mathlib.Core.List.{List, [], _++_, append-nil}
 use Prim.Native.Nat.{ℕ, suc, _+_, _*_, _-_, _/_, _≤_, _<_}
 use native.Mathlib.Numerals.{add-one}
+use native.Mathlib.Decide.{decLt}
 use native.Mathlib.Omega.{arith}
 use borrow.Author.Tests.{leb-true, le-leb}
 use lib.Dec.{eqb, leb}
 use lib.ListN.{length, getD}
+use Rattle.image.specs.Words.{Bytes}
 use Rattle.image.specs.Blocks.{region, block}
 use Rattle.image.specs.Bits.{bitAt}
 use Rattle.header.specs.Pointers.{pointerLbn, pointerCount, runs}
@@ -16,7 +18,7 @@ use Rattle.volume.specs.Home.{blocks}
 use Rattle.volume.specs.Volume.{ibsz, fmax, index, slot, slots, header, indexMap, inUse}
 use Rattle.volume.specs.declared.volume.Volume.{Volume}
 use Rattle.volume.specs.Opening.{indexMapBlocks, Open}
-use Rattle.volume.proofs.VolumeLaws.{Opens, says, indexMap-length, slot-below}
+use Rattle.volume.proofs.VolumeLaws.{Opens, opens, says, fmax-below, indexMap-length, slot-below}
 use Rattle.slots.specs.declared.slots.SlotRun.{SlotRun}
 use Rattle.slots.specs.Slots.{RunOf, Stands, gathered}
 
@@ -50,6 +52,13 @@ module _ (image : List ℕ) (n : ℕ) (run : SlotRun) (s : Stands image n run) w
   pub stands-header : 1 ≤ run .left → block image (run .lbn .0) ≡ header image n
   unfolding header
   stands-header l = ap (block image) (sym (stands-at l .1))
+
+  pub stands-read : n ≤ slots image → block image (run .lbn .0) ≡ header image n
+  stands-read l = go (decLt 0 (run .left))
+    where
+      go : Dec (0 < run .left) → block image (run .lbn .0) ≡ header image n
+      go (yes h) = stands-header h
+      go (no h) = absurd (omega (arith, s .none (omega arith)))
 
   pub stands-none : run .left ≡ 0 → slots image < n
   stands-none = s .none
@@ -89,11 +98,7 @@ module _ (image : List ℕ) (give : List ℕ → List ℕ) where
       let v : inUse image (suc n) ≡ false = rw (← add-one n) u in
       rw (add-one n, v) (append-nil (gathered image give n))
 
--- Which numbers are in use. The index map is what calls on an opened volume read it from.
-pub index-map-read : (image : List ℕ) (v : Volume) → Open image v → region image (v .iblb) (v .ibsz) ≡ indexMap image
-unfolding indexMap
-index-map-read image v o = let s = says image v (o .1) in ap₂ (region image) (s .iblb) (s .ibsz)
-
+-- Which numbers are in use.
 module _ (image : List ℕ) (n : ℕ) where
   pub in-use-bit : 1 ≤ n → n ≤ fmax image → inUse image n ≡ eqb (bitAt (indexMap image) (n - 1)) 1
   unfolding inUse
@@ -109,3 +114,24 @@ module _ (image : List ℕ) (n : ℕ) where
   pub bit-inside : Opens image → 1 ≤ n → n ≤ fmax image → (n - 1) / 8 < length (indexMap image)
   unfolding indexMapBlocks
   bit-inside o l h = omega (arith, indexMap-length o, o .maps)
+
+-- What a pass over the numbers of an opened volume reads: the region of the index map, and in it the bit of each number.
+pub opened-fmax : (image : List ℕ) (v : Volume) → Open image v → Bytes image → (v .fmax ≡ fmax image) × (v .fmax < 65536)
+opened-fmax image v o bytes =
+    let e = says image v (o .1) .fmax in
+    (e, omega (arith, e, fmax-below image bytes))
+
+module _ (image : List ℕ) (v : Volume) (o : Open image v) (map : List ℕ) (read : map ≡ region image (v .iblb) (v .ibsz)) where
+  map-read : map ≡ indexMap image
+  unfolding indexMap
+  map-read = let s = says image v (o .1) in read ∙ ap₂ (region image) (s .iblb) (s .ibsz)
+
+  module _ (n : ℕ) (low : 1 ≤ n) (high : n ≤ v .fmax) where
+    inside : n ≤ fmax image
+    inside = omega (arith, says image v (o .1) .fmax)
+
+    pub read-inside : (n - 1) / 8 < length map
+    read-inside = rw map-read (bit-inside image n (opens image (o .0)) low inside)
+
+    pub read-used : (bit : ℕ) → bit ≡ bitAt map (n - 1) → eqb bit 1 ≡ inUse image n
+    read-used bit e = rw (in-use-bit image n low inside, ← map-read, e)

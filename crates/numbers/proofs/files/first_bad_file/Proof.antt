@@ -4,13 +4,11 @@ use native.Mathlib.Omega.{arith}
 use mathlib.Core.Path.{_≡_, sym, ap, _∙_}
 use Prim.Native.Nat.{_+_, _-_, _≤_, _<_}
 use denote.Ref.{now}
-use lib.Dec.{eqb}
 use Rattle.image.specs.First.{first}
 use Rattle.image.proofs.First.{first-here, first-on, first-none}
-use Rattle.volume.specs.Volume.{fmax, indexMap, inUse}
-use Rattle.volume.proofs.VolumeLaws.{opens, says, fmax-below}
+use Rattle.volume.specs.Volume.{fmax}
 use Rattle.slots.specs.Slots.{Stands}
-use Rattle.slots.proofs.SlotLaws.{index-map-read, in-use-bit, bit-inside}
+use Rattle.slots.proofs.SlotLaws.{opened-fmax, read-inside, read-used}
 use Rattle.numbers.specs.Files.{badFile, filesPlace}
 use Rattle.numbers.proofs.files.first_bad_file.Statement.{statement}
 use Rattle.numbers.proofs.files.first_bad_file.Tie as tie
@@ -24,22 +22,10 @@ abbrev μ-loop : tie.MeasureT-loop
 most : (c : tie.After-shared-slice-known Inv-loop μ-loop) → (c .before .args .v .fmax ≡ fmax (now (c .before .args .image))) × (c .before .args .v .fmax < 65536)
 most c =
     let s = c .before in
-    let e = says (now (s .args .image)) (s .args .v) (s .pre .1) .fmax in
-    (e, omega (arith, e, fmax-below (now (s .args .image)) (record { each = λ i. omega (arith, c .shared-slice-known .given i) })))
+    opened-fmax (now (s .args .image)) (s .args .v) (s .pre) (record { each = λ i. omega (arith, c .shared-slice-known .given i) })
 
-map-read : (c : tie.After-region Inv-loop μ-loop) → now (c .region .result) ≡ indexMap (now (c .before .before .args .image))
-map-read c =
-    let s = c .before .before in
-    c .region .ensures ∙ index-map-read (now (s .args .image)) (s .args .v) (s .pre)
-
-used : (c : tie.After-bit-at Inv-loop μ-loop)
-    → let l = c .before .before .before in
-    eqb (c .bit-at .result) 1 ≡ inUse (now (l .before .before .before .before .args .image)) (l .loop .n)
-used c =
-    let l = c .before .before .before in
-    let r = l .before .before in
-    let image = now (r .before .before .args .image) in
-    rw (in-use-bit image (l .loop .n) (omega arith) (omega (arith, most (r .before))), ← map-read r, ← c .bit-at .ensures)
+slot-run-requires : tie.Need-slot-run-requires Inv-loop μ-loop
+slot-run-requires c κs = (c .before .before .pre, omega arith)
 
 loop-holds : tie.Need-loop-holds Inv-loop μ-loop
 unfolding filesPlace
@@ -48,20 +34,19 @@ loop-holds c =
     let image = now (k .before .args .image) in
     (omega arith, omega arith, c .slot-run .ensures, ap (first (badFile image) 1) (omega (arith, most k)))
 
-slot-run-requires : tie.Need-slot-run-requires Inv-loop μ-loop
-slot-run-requires c κs = (c .before .before .pre, omega arith)
-
 bit-at-requires : tie.Need-bit-at-requires Inv-loop μ-loop
 bit-at-requires c κs =
     let l = c .before .before in
     let r = l .before .before in
     let s = r .before .before in
-    rw (map-read r) (bit-inside (now (s .args .image)) (l .loop .n) (opens (now (s .args .image)) (s .pre .0)) (omega arith) (omega (arith, most (r .before))))
+    read-inside (now (s .args .image)) (s .args .v) (s .pre) _ (r .region .ensures) (l .loop .n) (omega arith) (omega arith)
 
 is-bad-file-requires : tie.Need-is-bad-file-requires Inv-loop μ-loop
 is-bad-file-requires c κs =
     let l = c .before .before .before in
-    (l .before .before .before .before .pre, l .loop .inv .2, used c, omega arith)
+    let r = l .before .before in
+    let s = r .before .before in
+    (s .pre, l .loop .inv .2, read-used (now (s .args .image)) (s .args .v) (s .pre) _ (r .region .ensures) (l .loop .n) (omega arith) (omega arith) _ (c .bit-at .ensures), omega arith)
 
 next-run-requires : tie.Need-next-run-requires Inv-loop μ-loop
 next-run-requires c κs =
