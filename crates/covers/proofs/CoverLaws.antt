@@ -1,9 +1,8 @@
 -- Laws of the blocks that headers in use cover, on an image that passes FILES and LINKS.
-use mathlib.Core.Path.{_≡_, refl, sym, ap, _∙_}
+use mathlib.Core.Path.{_≡_, refl, sym}
 use mathlib.Core.Bool.{Bool, true, false, cond, and-eq-true-iff}
-use mathlib.Core.List.{List, [], _∷_, _++_}
-use Prim.Native.Nat.{ℕ, zero, suc, _+_, _-_, _*_, _≤_, _<_}
-use native.Mathlib.Numerals.{add-one}
+use mathlib.Core.List.{List, [], _++_}
+use Prim.Native.Nat.{ℕ, zero, suc, _+_, _-_, _≤_, _<_}
 use native.Mathlib.Decide.{ℕ-discrete, decLt}
 use native.Mathlib.Omega.{arith}
 use borrow.Author.Tests.{eq-eqb, ne-eqb}
@@ -11,25 +10,22 @@ use lib.Dec.{eqb}
 use lib.ListN.{length, getD, length-append, List·getD-append}
 use lib.Seq.{getD-append-add}
 use Rattle.header.specs.Fields.{mEfnu}
-use Rattle.image.specs.Blocks.{block}
 use Rattle.answer.specs.declared.outcome.Outcome.the-variants.{Passed}
 use Rattle.header.specs.Pointers.{Fits, blocksOf}
 use Rattle.header.specs.Whole.{fault}
 use Rattle.header.proofs.WholeLaws.{whole-is, whole-fits, whole-inside}
 use Rattle.volume.specs.Home.{blocks}
-use Rattle.volume.specs.Volume.{fmax, slot, slots, hasSlot, header, faultOf, inUse, isNumber}
+use Rattle.volume.specs.Volume.{fmax, hasSlot, header, faultOf, inUse, isNumber}
 use Rattle.volume.specs.Opening.{openVolume}
 use Rattle.volume.proofs.VolumeLaws.{opens, header-length}
 use Rattle.file.specs.Chains.{goodLink, chain, chainOf, every, linkOf, goodChain, flat, fileBlocks}
 use Rattle.file.proofs.LinkLaws.{good-links}
-use Rattle.file.proofs.ChainLaws.{chain-end, chain-more}
 use Rattle.marks.specs.Counts.{count, In}
 use Rattle.marks.specs.Marks.{raisedBy}
 use Rattle.marks.proofs.CountLaws.{count-none, count-append}
 use Rattle.marks.proofs.MarkLaws.{raisedBy-append}
-use Rattle.slots.specs.declared.slots.SlotRun.{SlotRun}
-use Rattle.slots.specs.Slots.{Stands, gathered}
-use Rattle.slots.proofs.SlotLaws.{stands-at, used-range}
+use Rattle.slots.specs.Slots.{gathered}
+use Rattle.slots.proofs.SlotLaws.{used-range}
 use Rattle.numbers.specs.Files.{files}
 use Rattle.numbers.proofs.FileLaws.{FilesPassed, files-passed}
 use Rattle.covers.specs.Covered.{Ends, covered}
@@ -137,15 +133,6 @@ module _ (image : List ℕ) (good : (n : ℕ) → inUse image n ≡ true → goo
   pub file-covered : (low : (n : ℕ) → inUse image n ≡ true → (1 ≤ n) × (n ≤ fmax image)) (n j : ℕ) → inUse image n ≡ true → In j (fileBlocks image n) → In j (covered image)
   unfolding fileBlocks chainOf
   file-covered low n j u i = flat-covered low j 256 n u i
-
--- A walk over the slots that stands at a number with a slot stands at that slot.
-pub stands-slot : (image : List ℕ) (n : ℕ) (run : SlotRun) → Stands image n run → n ≤ slots image → block image (run .lbn .0) ≡ header image n
-unfolding header
-stands-slot image n run s l = go (decLt 0 (run .left))
-  where
-    go : Dec (0 < run .left) → block image (run .lbn .0) ≡ block image (slot image n)
-    go (yes m) = ap (block image) (sym (stands-at image n run s m .1))
-    go (no m) = absurd (omega (arith, s .none (omega arith)))
 
 -- The headers in use on a volume that opens and passes FILES.
 module _ (image : List ℕ) (o : openVolume image ≡ Passed) (f : files image ≡ Passed) where

@@ -1,31 +1,32 @@
 -- Laws of an area that holds the block marks: TWICE and MAP by the marks, and BADHOME by the marks of file 3's blocks.
-use mathlib.Core.Path.{_≡_, refl, sym, ap, _∙_}
-use mathlib.Core.Bool.{Bool, true, false, not, _&&_}
+use mathlib.Core.Path.{_≡_, refl, ap, _∙_}
+use mathlib.Core.Bool.{Bool, not, _&&_}
 use mathlib.Core.List.{List, _++_}
 use Prim.Native.Nat.{ℕ, zero, suc, _+_, _*_, _/_, _≤_, _<_, min}
 use native.Mathlib.Decide.{ℕ-discrete, decLt}
 use native.Mathlib.Omega.{arith}
-use borrow.Author.Tests.{eqb-true, eq-eqb, ne-eqb, lt-ltb, le-ltb, le-leb, lt-leb, leb-true, leb-false}
+use borrow.Author.Tests.{eqb-true, eq-eqb, ne-eqb, le-ltb, le-leb, lt-leb, leb-false}
 use lib.Dec.{eqb, leb, ltb}
 use lib.ListN.{length, getD}
 use Rattle.image.specs.Words.{byteAt}
 use Rattle.image.specs.Bits.{bitAt}
 use Rattle.image.specs.First.{first}
-use Rattle.image.proofs.First.{first-same, first-has, Is}
+use Rattle.image.proofs.First.{first-same, first-has}
 use Rattle.answer.specs.declared.refusal.Refusal.the-variants as refusal
 use Rattle.answer.specs.declared.outcome.Outcome.the-variants.{Passed}
 use Rattle.answer.proofs.OutcomeLaws.{passed-last}
 use Rattle.volume.specs.Home.{blocks, position, positions, homeIndex, home}
-use Rattle.volume.specs.Volume.{mapBlocks, storageMap}
+use Rattle.volume.specs.Volume.{storageMap}
 use Rattle.volume.proofs.HomeLaws.{position-first, position-later, position-below}
-use Rattle.volume.proofs.VolumeLaws.{Opens, home-below}
+use Rattle.volume.proofs.VolumeLaws.{Opens}
 use Rattle.file.specs.Chains.{fileBlocks}
 use Rattle.marks.specs.Counts.{oneIf, count, In}
 use Rattle.marks.specs.Marks.{capped, tallied, raisedBy, lowered, markedTwice, unlikeMarks}
-use Rattle.marks.proofs.CountLaws.{count-append, count-at}
-use Rattle.marks.proofs.MarkLaws.{tallied-at, tallied-twice, tallied-clear, tallied-by, lowered-tallied}
+use Rattle.marks.proofs.CountLaws.{count-append, count-in-below}
+use Rattle.marks.proofs.MarkLaws.{tallied-twice, tallied-clear, tallied-by, lowered-tallied}
 use Rattle.covers.specs.Covered.{covered, coveredTwice, twicePlace, twice, mapBits, wrongBit, mapPlace}
-use Rattle.covers.specs.Homes.{leftOut, badHomeIndex, unmarked}
+use Rattle.answer.specs.Outcome.{unless}
+use Rattle.covers.specs.Homes.{leftOut, badHomeIndex, badHome, unmarked}
 
 module _ (image area : List ℕ) (marks : area ≡ tallied (covered image) 0 (blocks image) area) where
   pub twice-marked : first (markedTwice area) 0 (blocks image) ≡ twicePlace image
@@ -107,3 +108,26 @@ module _ (image area : List ℕ) (o : Opens image) (once : (j : ℕ) → j < blo
       at : (j : ℕ) → j < blocks image → Dec (0 < count j (fileBlocks image 3)) → min 1 (min 2 (count j (covered image ++ fileBlocks image 3))) ≡ min 2 (count j (covered image))
       at j l (yes f) = omega (arith, both j, once j l, mine j f)
       at j l (no f) = omega (arith, both j, once j l)
+
+-- Position i lies before block 256 (i + 1).
+pub position-most : (i : ℕ) → position i < 256 * (i + 1)
+position-most zero = omega (arith, position-first)
+position-most (suc i) = omega (arith, position-later (suc i) (omega arith))
+
+-- A number of a list whose numbers lie below k lies below k.
+pub in-below : (k : ℕ) (l : List ℕ) → ((i : ℕ) → i < length l → getD l i 0 < k) → (x : ℕ) → In x l → x < k
+in-below k l below x i = go (decLt x k)
+  where
+    go : Dec (x < k) → x < k
+    go (yes m) = m
+    go (no m) = absurd (omega (arith, count-in-below k l below x (omega arith)))
+
+-- With the home at the first position none is passed over.
+pub bad-home-none : (image : List ℕ) → homeIndex image ≡ 0 → badHome image ≡ Passed
+unfolding badHome badHomeIndex first unless
+bad-home-none image z = rw z refl
+
+-- How many positions a volume has at most.
+pub passed-most : (n : ℕ) → 256 * positions n ≤ n + 255
+unfolding positions
+passed-most n = omega arith

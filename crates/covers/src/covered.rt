@@ -9,6 +9,7 @@ use header::pointers::pointer_number;
 use image::bits::bit_at;
 use image::blocks::block;
 use image::blocks::region;
+use marks::maps::first_unlike;
 use marks::marks::clear_first;
 use marks::marks::first_twice;
 use marks::marks::raise_run;
@@ -16,6 +17,7 @@ use slots::slots::SlotRun;
 use slots::slots::next_run;
 use slots::slots::slot_run;
 use volume::volume::Volume;
+use volume::volume::map_blocks;
 ghost use mathlib.Core.Path.{_≡_};
 ghost use mathlib.Core.Bool.{cond};
 ghost use mathlib.Core.List.{[]};
@@ -93,5 +95,21 @@ pub fn twice(image: &[u8], v: Volume, area: &[u8]) -> Outcome
         Outcome::Passed
     } else {
         Outcome::Refused(Refusal::Twice(place))
+    }
+}
+
+// MAP, by the block marks.
+pub fn map(image: &[u8], v: Volume, area: &[u8]) -> Outcome
+    requires { ⌜ Open (now image) v × (blocks (now image) ≤ length (now area)) × (now area ≡ tallied (covered (now image)) 0 (blocks (now image)) (now area)) ⌝ }
+    ensures { λ r. ⌜ r ≡ map (now (image .entry)) ⌝ }
+{
+    let q = map_blocks(v.blocks);
+    let bits = region(image, v.base, q);
+    let end = 4096 * q;
+    let place = first_unlike(bits, area, v.blocks as usize, end as usize) as u32;
+    if place == end {
+        Outcome::Passed
+    } else {
+        Outcome::Refused(Refusal::Map(place))
     }
 }

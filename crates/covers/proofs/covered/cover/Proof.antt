@@ -1,13 +1,12 @@
 -- Cleared marks are those of no block; each block that is covered then raises its own.
-use mathlib.Core.Path.{_≡_, ap, ap₂, _∙_}
+use mathlib.Core.Path.{_≡_, ap, _∙_}
 use mathlib.Core.List.{List, []}
-use Prim.Native.Nat.{ℕ, _≤_}
+use Prim.Native.Nat.{ℕ}
 use native.Mathlib.Omega.{arith}
 use denote.Ref.{now}
-use lib.ListN.{length}
 use Rattle.volume.specs.Home.{blocks}
 use Rattle.volume.proofs.VolumeLaws.{says}
-use Rattle.marks.specs.Marks.{tallied, cleared, raisedBy}
+use Rattle.marks.specs.Marks.{cleared, raisedBy}
 use Rattle.marks.proofs.MarkLaws.{cleared-tallied, tallied-by}
 use Rattle.covers.specs.Covered.{covered}
 use Rattle.covers.proofs.CoverLaws.{passes, covered-below}

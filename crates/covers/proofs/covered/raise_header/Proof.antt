@@ -63,14 +63,13 @@ loop-again c =
     let l = d .before .before .before in
     let area = now (l .before .before .before .before .before .args .area) in
     let from = l .before .before .first-pointer .result in
-    let before = runs (h d) from (l .loop .p) in
-    (
+    let before = runs (h d) from (l .loop .p) in (
       search needs,
       c .before .before .raise-run .kept .0 ∙ l .loop .inv .1,
       c .before .before .raise-run .ensures
-      ∙ ap₂ raisedBy (l .loop .inv .2) (ap₂ numbersFrom (d .before .pointer-lbn .ensures .0) (d .pointer-count .ensures .0))
-      ∙ sym (raisedBy-append area before (run (h d) (from + 4 * l .loop .p)))
-      ∙ ap (raisedBy area) (sym (runs-more (h d) from (l .loop .p))),
+          ∙ ap₂ raisedBy (l .loop .inv .2) (ap₂ numbersFrom (d .before .pointer-lbn .ensures .0) (d .pointer-count .ensures .0))
+          ∙ sym (raisedBy-append area before (run (h d) (from + 4 * l .loop .p)))
+          ∙ ap (raisedBy area) (sym (runs-more (h d) from (l .loop .p))),
     )
 
 returns : tie.Need-returns Inv-loop μ-loop

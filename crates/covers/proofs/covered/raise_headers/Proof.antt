@@ -1,21 +1,17 @@
 -- Before number n the blocks of the headers in use below it are raised, and the run stands at n.
-use mathlib.Core.Path.{_≡_, refl, sym, ap, ap₂, _∙_}
+use mathlib.Core.Path.{_≡_, refl, sym, ap, _∙_}
 use mathlib.Core.Bool.{cond}
 use mathlib.Core.List.{List, []}
 use Prim.Native.Nat.{ℕ, _+_, _-_, _≤_, _<_}
 use native.Mathlib.Omega.{arith}
 use denote.Ref.{now}
-use lib.Dec.{eqb}
 use lib.ListN.{length}
-use Rattle.image.specs.Words.{Bytes}
-use Rattle.image.specs.Bits.{bitAt}
 use Rattle.header.specs.Pointers.{blocksOf}
-use Rattle.volume.specs.Volume.{fmax, header, indexMap, inUse}
-use Rattle.volume.proofs.VolumeLaws.{opens, says, fmax-below}
+use Rattle.volume.specs.Volume.{fmax, header, inUse}
 use Rattle.marks.specs.Marks.{raisedBy}
 use Rattle.marks.proofs.MarkLaws.{raisedBy-none, raisedBy-length}
 use Rattle.slots.specs.Slots.{Stands, gathered}
-use Rattle.slots.proofs.SlotLaws.{gathered-none, index-map-read, in-use-bit, bit-inside}
+use Rattle.slots.proofs.SlotLaws.{gathered-none, opened-fmax, read-inside, read-used}
 use Rattle.covers.specs.Covered.{covered}
 use Rattle.covers.proofs.CoverLaws.{raised-more}
 use borrow.Author.Needs.{needs}
@@ -43,22 +39,8 @@ module _ (l : tie.At-loop Inv-loop μ-loop) where
   abbrev image : List ℕ
   image = now (s .args .image)
 
-  last : s .args .v .fmax ≡ fmax image
-  last = says image (s .args .v) (s .pre .0 .1) .fmax
-
-  small : fmax image < 65536
-  small = fmax-below image (record { each = λ i. omega (arith, l .before .before .before .before .shared-slice-known .given i) })
-
-  map : now (l .before .before .region .result) ≡ indexMap image
-  map = l .before .before .region .ensures ∙ index-map-read image (s .args .v) (s .pre .0)
-
--- The bit that was read is that of the number at hand.
-used : (c : tie.After-bit-at Inv-loop μ-loop) → eqb (c .bit-at .result) 1 ≡ inUse (image (c .before .before)) (c .before .before .loop .n)
-used c =
-    let l = c .before .before in
-    let n = l .loop .n in
-    ap (λ (b : ℕ). eqb b 1) (c .bit-at .ensures ∙ ap (λ (m : List ℕ). bitAt m (n - 1)) (map l))
-    ∙ sym (in-use-bit (image l) n (l .loop .inv .0) (omega (arith, last l)))
+  last : (s .args .v .fmax ≡ fmax image) × (s .args .v .fmax < 65536)
+  last = opened-fmax image (s .args .v) (s .pre .0) (record { each = λ i. omega (arith, l .before .before .before .before .shared-slice-known .given i) })
 
 slot-run-requires : tie.Need-slot-run-requires Inv-loop μ-loop
 slot-run-requires c κs = (c .before .before .before .pre .0, omega arith)
@@ -69,29 +51,30 @@ loop-holds c = (search needs, search needs, refl, sym (ap (raisedBy _) (gathered
 bit-at-requires : tie.Need-bit-at-requires Inv-loop μ-loop
 bit-at-requires c κs =
     let l = c .before in
-    rw (map l) (bit-inside (image l) (l .loop .n) (opens (image l) (s l .pre .0 .0)) (l .loop .inv .0) (omega (arith, last l)))
+    read-inside (image l) (s l .args .v) (s l .pre .0) _ (l .before .before .region .ensures) (l .loop .n) (l .loop .inv .0) (c .loop-test .taken)
 
 raise-number-requires : tie.Need-raise-number-requires Inv-loop μ-loop
 raise-number-requires c κs =
-    let l = c .before .before .before in
-    (s l .pre .0 .0, s l .pre .1, omega (arith, s l .pre .2, l .loop .inv .2), used (c .before), l .loop .inv .4)
+    let b = c .before in
+    let l = b .before .before in
+    let used = read-used (image l) (s l .args .v) (s l .pre .0) _ (l .before .before .region .ensures) (l .loop .n) (l .loop .inv .0) (b .before .loop-test .taken) _ (b .bit-at .ensures) in
+    (s l .pre .0 .0, s l .pre .1, omega (arith, s l .pre .2, l .loop .inv .2), used, l .loop .inv .4)
 
 next-run-requires : tie.Need-next-run-requires Inv-loop μ-loop
 next-run-requires c κs =
     let l = c .before .before .before .before .before .before in
-    (s l .pre .0, l .loop .inv .4, omega (arith, last l, small l))
+    (s l .pre .0, l .loop .inv .4, omega (arith, last l))
 
 add-n : tie.Need-add-n Inv-loop μ-loop
 add-n c =
     let l = c .before .before .before .before .before .before .before in
-    omega (arith, last l, small l)
+    omega (arith, last l)
 
 loop-again : tie.Need-loop-again Inv-loop μ-loop
 loop-again c =
     let l = c .before .before .before .before .before .before .before in
     let d = c .before .before .before in
-    let more = cond (inUse (image l) (l .loop .n)) (blocksOf (header (image l) (l .loop .n))) [] in
-    (
+    let more = cond (inUse (image l) (l .loop .n)) (blocksOf (header (image l) (l .loop .n))) [] in (
       search needs,
       search needs,
       ap length (d .raise-number .ensures) ∙ raisedBy-length (l .loop .area) more ∙ l .loop .inv .2,

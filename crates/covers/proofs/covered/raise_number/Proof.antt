@@ -1,17 +1,15 @@
 -- A number in use has a slot and a whole header, since FILES is passed.
 use mathlib.Core.Path.{_≡_, sym, ap, _∙_}
-use mathlib.Core.Bool.{Bool, true}
+use mathlib.Core.Bool.{true}
 use mathlib.Core.List.{List}
-use Prim.Native.Nat.{ℕ, _≤_}
-use native.Mathlib.Omega.{arith}
+use Prim.Native.Nat.{ℕ}
 use denote.Ref.{now}
-use lib.ListN.{length}
-use Rattle.header.specs.Pointers.{Fits, blocksOf}
+use Rattle.header.specs.Pointers.{blocksOf}
 use Rattle.volume.specs.Volume.{header, inUse}
 use Rattle.marks.specs.Marks.{raisedBy}
 use Rattle.marks.proofs.MarkLaws.{raisedBy-none}
-use Rattle.covers.specs.Covered.{Ends}
-use Rattle.covers.proofs.CoverLaws.{stands-slot, passes, used-fits, used-ends}
+use Rattle.slots.proofs.SlotLaws.{stands-read}
+use Rattle.covers.proofs.CoverLaws.{passes, used-fits, used-ends}
 use borrow.Author.Needs.{needs}
 use Rattle.covers.proofs.covered.raise_number.Statement.{statement}
 use Rattle.covers.proofs.covered.raise_number.Tie as tie
@@ -31,7 +29,7 @@ module _ (c : tie.After-block) where
   used = sym (s .pre .3) ∙ c .before .if1 .taken
 
   is : now (c .block .result) ≡ header image (s .args .n)
-  is = c .block .ensures ∙ stands-slot image (s .args .n) (s .args .run) (s .pre .4) (passes image (s .pre .0) (s .pre .1) .slotted (s .args .n) used)
+  is = c .block .ensures ∙ stands-read image (s .args .n) (s .args .run) (s .pre .4) (passes image (s .pre .0) (s .pre .1) .slotted (s .args .n) used)
 
 raise-header-requires : tie.Need-raise-header-requires
 raise-header-requires c κs =

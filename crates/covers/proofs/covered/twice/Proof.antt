@@ -1,11 +1,8 @@
 -- The lowest mark 2 is the lowest block that is covered twice.
-use mathlib.Core.Path.{_≡_, refl, sym, ap, _∙_}
-use mathlib.Core.List.{List}
-use Prim.Native.Nat.{ℕ, _≤_, _<_}
+use mathlib.Core.Path.{_≡_, sym, ap, _∙_}
 use native.Mathlib.Omega.{arith}
 use borrow.Author.Tests.{eq-eqb, ne-eqb}
 use denote.Ref.{now}
-use lib.ListN.{length}
 use Rattle.image.specs.First.{first}
 use Rattle.image.proofs.First.{first-has}
 use Rattle.answer.specs.Outcome.{unless}
