@@ -13,10 +13,10 @@ pub fn clear_first(area: &mut [u8], k: usize)
     requires { ⌜ k ≤ length (now area) ⌝ }
     ensures { λ _. ⌜ now (area .exit) ≡ cleared (now (area .entry)) k ⌝ }
 {
-    let mut i: usize = 0;
-    while i < k {
-        area[i] = 0;
-        i += 1;
+    let mut done: usize = 0;
+    while done < k {
+        area[done] = 0;
+        done += 1;
     }
 }
 
@@ -92,14 +92,14 @@ fn search_twice(area: &[u8], k: usize) -> usize
     requires { ⌜ k ≤ length (now area) ⌝ }
     ensures { λ r. ⌜ r ≡ first (markedTwice (now (area .entry))) 0 k ⌝ }
 {
-    let mut i: usize = 0;
-    while i < k {
-        if 2 <= area[i] {
-            return i;
+    let mut j: usize = 0;
+    while j < k {
+        if 2 <= area[j] {
+            return j;
         }
-        i += 1;
+        j += 1;
     }
-    i
+    j
 }
 
 // The first of k marks that says "covered by two places"; k where none does. That none does is seen many marks at a time.
