@@ -2,7 +2,7 @@
 use mathlib.Core.Path.{_≡_, refl, sym, ap, ap₂, _∙_}
 use mathlib.Core.Bool.{Bool, true, false, not}
 use mathlib.Core.List.{List}
-use Prim.Native.Nat.{ℕ, zero, suc, _+_, _*_, _-_, _/_, _%_, _^_, _≤_, _<_}
+use Prim.Native.Nat.{ℕ, zero, suc, _+_, _*_, _-_, _/_, _%_, _≤_, _<_}
 use native.Mathlib.Nat.{one-mul, add-zero}
 use native.Mathlib.Decide.{decLt}
 use native.Mathlib.Omega.{arith}
@@ -17,7 +17,7 @@ use Rattle.image.proofs.Below.{below-at}
 use Rattle.image.proofs.BitLaws.{bit-below}
 use Rattle.marks.specs.Counts.{oneIf, howMany}
 use Rattle.marks.specs.Marks.{isSet, unlikeMarks}
-use Rattle.marks.specs.Wanted.{wantedBit, wantedByte}
+use Rattle.marks.specs.Wanted.{wantedBit, wantedLow, wantedHigh, wantedByte}
 use Rattle.marks.proofs.CountLaws.{oneIf-most, howMany-next}
 
 -- A bit is 1 exactly if it is set.
@@ -77,33 +77,32 @@ bit-in map k i h =
     cc
 
 -- A byte that is as its eight marks want it: so is each bit, and the search goes on behind it.
-bit-most : (area : List ℕ) (j : ℕ) → wantedBit area j ≤ 1
+most : (area : List ℕ) (j : ℕ)
+    → (wantedBit area j ≤ 1)
+    × (wantedBit area (j + 1) ≤ 1)
+    × (wantedBit area (j + 2) ≤ 1)
+    × (wantedBit area (j + 3) ≤ 1)
+    × (wantedBit area (j + 4) ≤ 1)
+    × (wantedBit area (j + 5) ≤ 1)
+    × (wantedBit area (j + 6) ≤ 1)
+    × (wantedBit area (j + 7) ≤ 1)
 unfolding wantedBit
-bit-most area j = oneIf-most (eqb (byteAt area j) 0)
+most area j = (one j, one (j + 1), one (j + 2), one (j + 3), one (j + 4), one (j + 5), one (j + 6), one (j + 7))
+  where
+    one : (i : ℕ) → oneIf (eqb (byteAt area i) 0) ≤ 1
+    one i = oneIf-most (eqb (byteAt area i) 0)
 
 wanted-bit : (area : List ℕ) (j k : ℕ) → k < 8 → bitOf (wantedByte area j) k ≡ wantedBit area (j + k)
-unfolding wantedByte bitOf
-wanted-bit area j k h = go k h
-  where
-    w : ℕ → ℕ
-    w i = wantedBit area (j + i)
-
-    most : (i : ℕ) → wantedBit area (j + i) ≤ 1
-    most i = bit-most area (j + i)
-
-    start : wantedBit area (j + 0) ≡ wantedBit area j
-    start = ap (wantedBit area) (add-zero j)
-
-    go : (k : ℕ) → k < 8 → (wantedBit area j + 2 * wantedBit area (j + 1) + 4 * wantedBit area (j + 2) + 8 * wantedBit area (j + 3) + 16 * wantedBit area (j + 4) + 32 * wantedBit area (j + 5) + 64 * wantedBit area (j + 6) + 128 * wantedBit area (j + 7)) / 2 ^ k % 2 ≡ wantedBit area (j + k)
-    go zero h = omega (arith, start, most 0, most 1, most 2, most 3, most 4, most 5, most 6, most 7)
-    go (suc zero) h = omega (arith, start, most 0, most 1, most 2, most 3, most 4, most 5, most 6, most 7)
-    go (suc (suc zero)) h = omega (arith, start, most 0, most 1, most 2, most 3, most 4, most 5, most 6, most 7)
-    go (suc (suc (suc zero))) h = omega (arith, start, most 0, most 1, most 2, most 3, most 4, most 5, most 6, most 7)
-    go (suc (suc (suc (suc zero)))) h = omega (arith, start, most 0, most 1, most 2, most 3, most 4, most 5, most 6, most 7)
-    go (suc (suc (suc (suc (suc zero))))) h = omega (arith, start, most 0, most 1, most 2, most 3, most 4, most 5, most 6, most 7)
-    go (suc (suc (suc (suc (suc (suc zero)))))) h = omega (arith, start, most 0, most 1, most 2, most 3, most 4, most 5, most 6, most 7)
-    go (suc (suc (suc (suc (suc (suc (suc zero))))))) h = omega (arith, start, most 0, most 1, most 2, most 3, most 4, most 5, most 6, most 7)
-    go (suc (suc (suc (suc (suc (suc (suc (suc k)))))))) h = absurd (omega arith)
+unfolding wantedByte wantedLow wantedHigh bitOf
+wanted-bit area j zero h = rw (add-zero j) (omega (arith, most area j))
+wanted-bit area j (suc zero) h = omega (arith, most area j)
+wanted-bit area j (suc (suc zero)) h = omega (arith, most area j)
+wanted-bit area j (suc (suc (suc zero))) h = omega (arith, most area j)
+wanted-bit area j (suc (suc (suc (suc zero)))) h = omega (arith, most area j)
+wanted-bit area j (suc (suc (suc (suc (suc zero))))) h = omega (arith, most area j)
+wanted-bit area j (suc (suc (suc (suc (suc (suc zero)))))) h = omega (arith, most area j)
+wanted-bit area j (suc (suc (suc (suc (suc (suc (suc zero))))))) h = omega (arith, most area j)
+wanted-bit area j (suc (suc (suc (suc (suc (suc (suc (suc k)))))))) h = absurd (omega arith)
 
 like-bit : (map area : List ℕ) (n i j : ℕ) → byteAt map i ≡ wantedByte area (8 * i) → 8 * i ≤ j → j < 8 * i + 8 → j < n → unlikeMarks map area n j ≡ false
 like-bit map area n i j e low high h =

@@ -12,8 +12,10 @@ use borrow.Author.Tests.{le-leb, lt-leb, eq-eqb, ne-eqb}
 use lib.Dec.{leb, eqb}
 use lib.ListN.{length, getD, drop, set, length-set, length-append, length-drop, List·getD-append}
 use lib.Seq.{ext-getD, getD-set-same, getD-set-other, set-append-left, drop-at, drop-cons, set-at, getD-drop, getD-append-add}
+use Rattle.image.specs.First.{first}
 use Rattle.image.specs.Words.{byteAt, Bytes}
 use Rattle.image.specs.Stores.{zeros, numbersFrom}
+use Rattle.image.proofs.First.{first-is}
 use Rattle.image.proofs.Numbers.{numbersFrom-none, numbersFrom-last}
 use Rattle.image.proofs.StoreLaws.{zeros-length, zeros-byte}
 use Rattle.marks.specs.Counts.{oneIf, count}
@@ -111,6 +113,10 @@ twice-true area i h = le-leb 2 (byteAt area i) h
 pub twice-false : (area : List ℕ) (i : ℕ) → byteAt area i < 2 → markedTwice area i ≡ false
 unfolding markedTwice
 twice-false area i h = lt-leb 2 (byteAt area i) h
+
+pub twice-none : (area : List ℕ) (k : ℕ) → ((j : ℕ) → j < k → byteAt area j < 2) → first (markedTwice area) 0 k ≡ k
+twice-none area k low =
+    first-is (markedTwice area) 0 k k (record { low = omega arith; high = omega arith; before = λ j a b. twice-false area j (low j b); here = λ l. absurd (omega arith) })
 
 -- A mark that says "covered" adds what it is capped at 1.
 pub marked-one : (area : List ℕ) (i : ℕ) → oneIf (marked area i) ≡ min 1 (byteAt area i)

@@ -9,14 +9,12 @@ use Rattle.marks.specs.Counts.{oneIf}
 unfoldable pub wantedBit : List ℕ → ℕ → ℕ
 wantedBit area j = oneIf (eqb (byteAt area j) 0)
 
--- The byte that the eight marks from mark j on want.
+-- The byte that the eight marks from mark j on want: its low four bits, its high four bits, and both.
+unfoldable pub wantedLow : List ℕ → ℕ → ℕ
+wantedLow area j = wantedBit area j + 2 * wantedBit area (j + 1) + 4 * wantedBit area (j + 2) + 8 * wantedBit area (j + 3)
+
+unfoldable pub wantedHigh : List ℕ → ℕ → ℕ
+wantedHigh area j = 16 * wantedBit area (j + 4) + 32 * wantedBit area (j + 5) + 64 * wantedBit area (j + 6) + 128 * wantedBit area (j + 7)
+
 unfoldable pub wantedByte : List ℕ → ℕ → ℕ
-wantedByte area j =
-    wantedBit area j
-    + 2 * wantedBit area (j + 1)
-    + 4 * wantedBit area (j + 2)
-    + 8 * wantedBit area (j + 3)
-    + 16 * wantedBit area (j + 4)
-    + 32 * wantedBit area (j + 5)
-    + 64 * wantedBit area (j + 6)
-    + 128 * wantedBit area (j + 7)
+wantedByte area j = wantedLow area j + wantedHigh area j

@@ -8,7 +8,7 @@ ghost use lib.Count.{ones};
 ghost use Rattle.image.specs.First.{first};
 ghost use Rattle.marks.specs.Counts.{oneIf, howMany};
 ghost use Rattle.marks.specs.Marks.{isSet, unlikeMarks};
-ghost use Rattle.marks.specs.Wanted.{wantedByte};
+ghost use Rattle.marks.specs.Wanted.{wantedLow, wantedHigh, wantedByte};
 
 // The bit that a mark wants, with its weight w.
 fn weighed(m: u8, w: u8) -> u8
@@ -34,19 +34,34 @@ fn first_unlike_bit(map: &[u8], area: &[u8], from: usize, n: usize) -> usize
     j
 }
 
-// The byte that the eight marks from mark j on want.
-fn wanted_byte(area: &[u8], j: usize) -> u8
+// The low four bits of the byte that the eight marks from mark j on want.
+fn wanted_low(area: &[u8], j: usize) -> u8
     requires { ⌜ j + 8 ≤ length (now area) ⌝ }
-    ensures { λ r. ⌜ r ≡ wantedByte (now (area .entry)) j ⌝ }
+    ensures { λ r. ⌜ (r ≡ wantedLow (now (area .entry)) j) × (r < 16) ⌝ }
 {
     weighed(area[j], 1)
         + weighed(area[j + 1], 2)
         + weighed(area[j + 2], 4)
         + weighed(area[j + 3], 8)
-        + weighed(area[j + 4], 16)
+}
+
+// The high four bits.
+fn wanted_high(area: &[u8], j: usize) -> u8
+    requires { ⌜ j + 8 ≤ length (now area) ⌝ }
+    ensures { λ r. ⌜ (r ≡ wantedHigh (now (area .entry)) j) × (r ≤ 240) ⌝ }
+{
+    weighed(area[j + 4], 16)
         + weighed(area[j + 5], 32)
         + weighed(area[j + 6], 64)
         + weighed(area[j + 7], 128)
+}
+
+// The byte that the eight marks from mark j on want.
+fn wanted_byte(area: &[u8], j: usize) -> u8
+    requires { ⌜ j + 8 ≤ length (now area) ⌝ }
+    ensures { λ r. ⌜ r ≡ wantedByte (now (area .entry)) j ⌝ }
+{
+    wanted_low(area, j) + wanted_high(area, j)
 }
 
 // How many whole bytes of the first n bits are passed until one is not as its marks want it: the first bit that is not lies behind them.

@@ -1,8 +1,9 @@
 // The marks of a work area: counts that are capped at 2, a byte each.
 ghost use mathlib.Core.Path.{_≡_};
-ghost use Prim.Native.Nat.{_+_, _^_, _≤_, _<_, min};
+ghost use Prim.Native.Nat.{ℕ, _+_, _^_, _≤_, _<_, min};
 ghost use lib.ListN.{length};
 ghost use Rattle.image.specs.First.{first};
+ghost use Rattle.image.specs.Words.{byteAt};
 ghost use Rattle.image.specs.Stores.{numbersFrom};
 ghost use Rattle.marks.specs.Counts.{howMany};
 ghost use Rattle.marks.specs.Marks.{cleared, raised, raisedBy, lowered, markedTwice, marked};
@@ -12,10 +13,10 @@ pub fn clear_first(area: &mut [u8], k: usize)
     requires { ⌜ k ≤ length (now area) ⌝ }
     ensures { λ _. ⌜ now (area .exit) ≡ cleared (now (area .entry)) k ⌝ }
 {
-    let mut i: usize = 0;
-    while i < k {
-        area[i] = 0;
-        i += 1;
+    let mut done: usize = 0;
+    while done < k {
+        area[done] = 0;
+        done += 1;
     }
 }
 
@@ -65,19 +66,51 @@ pub fn lower_first(area: &mut [u8], k: usize)
     }
 }
 
-// The first of k marks that says "covered by two places"; k where none does.
+// The higher of two marks.
+fn higher(a: u8, b: u8) -> u8
+    ensures { λ r. ⌜ (a ≤ r) × (b ≤ r) ⌝ }
+{
+    if a < b { b } else { a }
+}
+
+// The highest of the first k marks.
+fn highest(area: &[u8], k: usize) -> u8
+    requires { ⌜ k ≤ length (now area) ⌝ }
+    ensures { λ r. ⌜ ((j : ℕ) → j < k → byteAt (now (area .entry)) j ≤ r) ⌝ }
+{
+    let mut top: u8 = 0;
+    let mut i: usize = 0;
+    while i < k {
+        top = higher(top, area[i]);
+        i += 1;
+    }
+    top
+}
+
+// The first of k marks that says "covered by two places"; k where none does. One mark after the other.
+fn search_twice(area: &[u8], k: usize) -> usize
+    requires { ⌜ k ≤ length (now area) ⌝ }
+    ensures { λ r. ⌜ r ≡ first (markedTwice (now (area .entry))) 0 k ⌝ }
+{
+    let mut j: usize = 0;
+    while j < k {
+        if 2 <= area[j] {
+            return j;
+        }
+        j += 1;
+    }
+    j
+}
+
+// The first of k marks that says "covered by two places"; k where none does. That none does is seen many marks at a time.
 pub fn first_twice(area: &[u8], k: usize) -> usize
     requires { ⌜ k ≤ length (now area) ⌝ }
     ensures { λ r. ⌜ r ≡ first (markedTwice (now (area .entry))) 0 k ⌝ }
 {
-    let mut i: usize = 0;
-    while i < k {
-        if 2 <= area[i] {
-            return i;
-        }
-        i += 1;
+    if highest(area, k) < 2 {
+        return k;
     }
-    i
+    search_twice(area, k)
 }
 
 // How many of the first k marks say "covered".

@@ -1,7 +1,10 @@
 -- Below n and from n on are searched one after the other.
-use mathlib.Core.Path.{sym, _∙_}
+use mathlib.Core.Path.{_≡_, sym, _∙_}
+use Prim.Native.Nat.{_-_}
 use native.Mathlib.Omega.{arith}
 use denote.Ref.{now}
+use Rattle.image.specs.First.{first}
+use Rattle.marks.specs.Marks.{isSet}
 use Rattle.marks.proofs.MapLaws.{unlike-found, unlike-past}
 use borrow.Author.Needs.{needs}
 use Rattle.marks.proofs.maps.first_unlike.Statement.{statement}
@@ -17,7 +20,8 @@ returns-2 : tie.Need-returns-2
 returns-2 c =
     let a = c .before .before .before .before .before .args in
     let e = c .before .before .first-unlike-below .ensures in
-    c .first-set .ensures ∙ sym (unlike-past (now (a .map)) (now (a .area)) (a .n) (a .end) (omega arith) (rw (← e) (c .before .if1 .left)))
+    let found : c .first-set .result ≡ first (isSet (now (a .map))) (a .n) (a .end - a .n) = c .first-set .ensures in
+    found ∙ sym (unlike-past (now (a .map)) (now (a .area)) (a .n) (a .end) (omega arith) (rw (← e) (c .before .if1 .left)))
 
 pub first-unlike-spec : {M : Type 1} → statement M
 first-unlike-spec = tie.close (tie.spec (search needs) returns (search needs) returns-2)

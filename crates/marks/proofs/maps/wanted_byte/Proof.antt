@@ -1,13 +1,13 @@
--- The eight weights make up the byte.
+-- The low and the high bits make up the byte.
 use native.Mathlib.Omega.{arith}
-use Rattle.marks.specs.Wanted.{wantedBit, wantedByte}
+use Rattle.marks.specs.Wanted.{wantedByte}
 use borrow.Author.Needs.{needs}
 use Rattle.marks.proofs.maps.wanted_byte.Statement.{statement}
 use Rattle.marks.proofs.maps.wanted_byte.Tie as tie
 
 returns : tie.Need-returns
-unfolding wantedByte wantedBit
+unfolding wantedByte
 returns c = omega arith
 
 pub wanted-byte-spec : {M : Type 1} → statement M
-wanted-byte-spec = tie.close (tie.spec (search needs) (search needs) (search needs) (search needs) (search needs) (search needs) (search needs) (search needs) (search needs) (search needs) (search needs) (search needs) (search needs) (search needs) (search needs) (search needs) (search needs) (search needs) (search needs) (search needs) (search needs) (search needs) (search needs) (search needs) (search needs) (search needs) (search needs) (search needs) (search needs) (search needs) returns)
+wanted-byte-spec = tie.close (tie.spec (search needs) (search needs) (search needs) returns)

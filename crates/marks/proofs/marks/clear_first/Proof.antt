@@ -1,4 +1,4 @@
--- After i turns the first i marks are 0.
+-- After each turn the marks done are 0.
 use mathlib.Core.Path.{_≡_, refl, sym}
 use Prim.Native.Nat.{_-_, _≤_}
 use native.Mathlib.Omega.{arith}
@@ -10,23 +10,23 @@ use Rattle.marks.proofs.marks.clear_first.Statement.{statement}
 use Rattle.marks.proofs.marks.clear_first.Tie as tie
 
 abbrev Inv-loop : tie.InvT-loop
-Inv-loop area₀ k i₀ area i = (i ≤ k) × (length area ≡ length area₀) × (area ≡ cleared area₀ i)
+Inv-loop area₀ k done₀ area done = (area ≡ cleared area₀ done) × (length area ≡ length area₀) × (done ≤ k)
 
 abbrev μ-loop : tie.MeasureT-loop
-μ-loop area₀ k i₀ area i = k - i
+μ-loop area₀ k done₀ area done = k - done
 
 loop-holds : tie.Need-loop-holds Inv-loop μ-loop
-loop-holds c = (search needs, refl, sym (cleared-none _))
+loop-holds c = (sym (cleared-none _), refl, omega arith)
 
 loop-again : tie.Need-loop-again Inv-loop μ-loop
 loop-again c =
     let l = c .before in
-    (search needs, simp length-set (l .loop .inv .1), rw (← cleared-more (l .before .args .area .now) (l .loop .i) (omega arith), ← l .loop .inv .2))
+    (rw (← cleared-more (l .before .args .area .now) (l .loop .done) (omega arith), ← l .loop .inv .0), simp length-set (l .loop .inv .1), search needs)
 
 returns : tie.Need-returns Inv-loop μ-loop
 returns c =
-    let e : c .before .loop .i ≡ c .before .before .args .k = omega arith in
-    rw (← e) (c .before .loop .inv .2)
+    let e : c .before .loop .done ≡ c .before .before .args .k = omega arith in
+    rw (← e) (c .before .loop .inv .0)
 
 pub clear-first-spec : {M : Type 1} → statement M
 clear-first-spec = tie.close (tie.spec Inv-loop μ-loop loop-holds (search needs) (search needs) (search needs) loop-again (search needs) returns)

@@ -1,41 +1,16 @@
--- No mark before i says "twice".
-use mathlib.Core.Path.{_≡_}
-use Prim.Native.Nat.{_-_, _≤_}
+-- Where the highest mark is below 2, none says "twice".
+use mathlib.Core.Path.{sym}
 use native.Mathlib.Omega.{arith}
-use Rattle.image.specs.First.{first}
-use Rattle.image.proofs.First.{first-start, first-here, first-on, first-none}
-use Rattle.marks.specs.Marks.{markedTwice}
-use Rattle.marks.proofs.MarkLaws.{twice-true, twice-false}
 use denote.Ref.{now}
+use Rattle.marks.proofs.MarkLaws.{twice-none}
 use borrow.Author.Needs.{needs}
 use Rattle.marks.proofs.marks.first_twice.Statement.{statement}
 use Rattle.marks.proofs.marks.first_twice.Tie as tie
 
-abbrev Inv-loop : tie.InvT-loop
-Inv-loop area k i₀ i = (i ≤ k) × (first (markedTwice area) 0 k ≡ first (markedTwice area) i (k - i))
-
-abbrev μ-loop : tie.MeasureT-loop
-μ-loop area k i₀ i = k - i
-
-loop-holds : tie.Need-loop-holds Inv-loop μ-loop
-loop-holds c = (search needs, first-start _ _)
-
-returns : tie.Need-returns Inv-loop μ-loop
+returns : tie.Need-returns
 returns c =
-    let l = c .before .before .before in
-    let a = l .before .args in
-    cc (first-here (markedTwice (now (a .area))) (l .loop .i) (a .k) (omega arith) (twice-true (now (a .area)) (l .loop .i) (omega arith)))
-
-loop-again : tie.Need-loop-again Inv-loop μ-loop
-loop-again c =
-    let l = c .before .before .before in
-    let a = l .before .args in
-    (search needs, cc (first-on (markedTwice (now (a .area))) (l .loop .i) (a .k) (omega arith) (twice-false (now (a .area)) (l .loop .i) (omega arith))))
-
-returns-2 : tie.Need-returns-2 Inv-loop μ-loop
-returns-2 c =
-    let l = c .before in
-    cc (first-none (markedTwice (now (l .before .args .area))) (l .loop .i) (l .before .args .k) (omega arith))
+    let a = c .before .before .before .args in
+    sym (twice-none (now (a .area)) (a .k) (λ j h. omega (arith, c .before .highest .ensures j h)))
 
 pub first-twice-spec : {M : Type 1} → statement M
-first-twice-spec = tie.close (tie.spec Inv-loop μ-loop loop-holds (search needs) returns (search needs) (search needs) loop-again returns-2)
+first-twice-spec = tie.close (tie.spec (search needs) returns (search needs) (search needs))
