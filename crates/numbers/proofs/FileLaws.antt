@@ -7,10 +7,9 @@ use native.Mathlib.Decide.{ℕ-discrete, decLe}
 use native.Mathlib.Omega.{arith}
 use borrow.Author.Tests.{eqb-true, eq-eqb, ne-eqb, le-leb, lt-leb}
 use lib.Dec.{eqb, leb}
-use Rattle.answer.specs.declared.refusal.Refusal.the-variants as refusal
 use Rattle.answer.specs.declared.outcome.Outcome.the-variants.{Passed}
 use Rattle.header.specs.Fields.{hFseq, segment}
-use Rattle.volume.specs.Volume.{fmax, slots, hasSlot, header, faultOf, inUse}
+use Rattle.volume.specs.Volume.{fmax, slots, hasSlot, header, faultOf, inUse, isNumber}
 use Rattle.slots.proofs.SlotLaws.{used-range}
 use Rattle.numbers.specs.Files.{isKnown, badFile, filesPlace, files}
 use Rattle.numbers.proofs.SearchLaws.{search-passed, search-all}
@@ -112,3 +111,8 @@ module _ (image : List ℕ) where
       go n l true u (no h) = bad-other image n u (f .slotted n u) (f .whole n u) (omega arith)
       go n l false u (yes h) = absurd (false≢true (sym u ∙ f .known n l h .used))
       go n l false u (no h) = rw (bad-unused image n u, lt-leb n 5 (omega arith))
+
+-- A number in use is then one that has a slot.
+pub files-number : (image : List ℕ) → FilesPassed image → (n : ℕ) → inUse image n ≡ true → isNumber image n ≡ true
+unfolding isNumber hasSlot
+files-number image f n u = rw (u, le-leb n (slots image) (f .slotted n u))

@@ -42,7 +42,7 @@ returns-2 c =
     let s = e .before .before in
     let image = now (s .args .image) in
     let n = s .args .n .0 in
-    sym (link-miscounted image (linked image) n (used e) (λ q. omega (arith, s .pre .4, is-capped (linked image) n (linksWanted (header image n)) (wanted-most (header image n)) q, wanted w)))
+    sym (link-miscounted image (linked image) n (used e) (λ q. omega (arith, s .pre .4, is-capped (linked image) n (linksWanted (header image n)) (wanted-most (header image n)) q, wanted-most (header image n), wanted w)))
 
 has-good-link-requires : tie.Need-has-good-link-requires
 has-good-link-requires c κs =
