@@ -15,8 +15,9 @@ use volume::opening::open;
 use volume::volume::Volume;
 use volume::volume::map_blocks;
 ghost use mathlib.Core.Path.{_≡_};
-ghost use mathlib.Core.Bool.{true};
+ghost use mathlib.Core.Bool.{_&&_};
 ghost use Prim.Native.Nat.{_≤_};
+ghost use lib.Dec.{leb};
 ghost use lib.ListN.{length};
 ghost use Rattle.answer.specs.declared.outcome.Outcome.the-variants.{Passed};
 ghost use Rattle.answer.specs.Outcome.{_then_};
@@ -28,7 +29,7 @@ ghost use Rattle.numbers.specs.Files.{files};
 ghost use Rattle.numbers.specs.Links.{linked, links};
 ghost use Rattle.covers.specs.Covered.{covered, twice, map};
 ghost use Rattle.covers.specs.Homes.{badHome};
-ghost use Rattle.verdict.specs.Verdict.{roomy, verdict, afterwards, headerMarks, blockMarks, countsOf, verdictAnswer};
+ghost use Rattle.verdict.specs.Verdict.{verdict, afterwards, headerMarks, blockMarks, countsOf, verdictAnswer};
 
 // The verdict's four counts.
 pub struct Counts {
@@ -94,6 +95,16 @@ fn judge_opened(image: &[u8], v: Volume, area: &mut [u8], headers: &mut [u8]) ->
     }
 }
 
+// Whether areas of these lengths have room for the block marks and the header marks of a volume.
+fn is_roomy(v: Volume, area: usize, headers: usize) -> bool
+    ensures { λ r. ⌜ r ≡ (leb (v .blocks) area && leb (v .fmax) headers) ⌝ }
+{
+    if area < (v.blocks as usize) {
+        return false;
+    }
+    (v.fmax as usize) <= headers
+}
+
 // Opens a volume and judges it.
 pub fn judge_volume(image: &[u8], area: &mut [u8], headers: &mut [u8]) -> JudgedVolume
     ensures { λ r. ⌜ (r .outcome ≡ verdict (now (image .entry)) (length (now (area .entry))) (length (now (headers .entry))))
@@ -106,14 +117,15 @@ pub fn judge_volume(image: &[u8], area: &mut [u8], headers: &mut [u8]) -> Judged
     let v = o.volume;
     match opened {
         Outcome::Passed => {
-            if (area.len() < (v.blocks as usize)) | (headers.len() < (v.fmax as usize)) {
-                return JudgedVolume {
+            if is_roomy(v, area.len(), headers.len()) {
+                let outcome = judge_opened(image, v, area, headers);
+                JudgedVolume { outcome, volume: v }
+            } else {
+                JudgedVolume {
                     outcome: Outcome::Refused(Refusal::Work),
                     volume: v,
-                };
+                }
             }
-            let outcome = judge_opened(image, v, area, headers);
-            JudgedVolume { outcome, volume: v }
         }
         Outcome::Refused(r) => JudgedVolume {
             outcome: Outcome::Refused(r),

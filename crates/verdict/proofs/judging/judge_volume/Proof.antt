@@ -1,67 +1,82 @@
+-- What opening gives, the room that there is, and the five rules.
+use mathlib.Core.Path.{_≡_, refl, sym, ap₂, _∙_}
+use mathlib.Core.Bool.{_&&_}
+use mathlib.Core.List.{List}
+use Prim.Native.Nat.{ℕ}
+use denote.Ref.{now}
+use lib.Dec.{leb}
+use lib.ListN.{length}
+use Rattle.answer.specs.declared.outcome.Outcome.the-variants as outcome
+use Rattle.answer.specs.Outcome.{unless, _then_}
+use Rattle.volume.specs.Volume.{volumeOf}
+use Rattle.volume.specs.Opening.{openVolume}
+use Rattle.volume.proofs.VolumeLaws.{says}
+use Rattle.verdict.specs.Verdict.{roomy, ready, verdict, afterwards, headerMarks, blockMarks}
+use Rattle.verdict.proofs.PassedLaws.{roomy-is, passed-opens}
 use borrow.Author.Needs.{needs}
 use Rattle.verdict.proofs.judging.judge_volume.Statement.{statement}
 use Rattle.verdict.proofs.judging.judge_volume.Tie as tie
 use Rattle.verdict.proofs.judging.judge_volume.Reads as reads
 use Rattle.verdict.proofs.judging.judge_volume.Lts as lts
+use Rattle.verdict.proofs.judging.is_roomy.Reads as is-roomy-reads
 use Rattle.verdict.proofs.judging.judge_opened.Reads as judge-opened-reads
 use Rattle.volume.proofs.opening.open.Reads as open-reads
 
--- src/judging.rt:104:9
-open-requires : tie.Need-open-requires
-open-requires c κs = search needs
+module _ (c : tie.After-enum-told) where
+  abbrev opening : tie.After-open
+  opening = c .before .before .before
 
--- src/judging.rt:109:17
-enum-told : tie.Need-enum-told
-enum-told c = search needs
+  abbrev start : tie.Start
+  start = opening .before .before .before .before
 
--- src/judging.rt:109:31
-cast-if1 : tie.Need-cast-if1
-cast-if1 c = search needs
+  abbrev image : List ℕ
+  image = now (start .args .image)
 
--- src/judging.rt:109:71
-cast-if1-2 : tie.Need-cast-if1-2
-cast-if1-2 c = search needs
+  opened : openVolume image ≡ outcome.Passed
+  opened = sym (opening .open .ensures .0) ∙ c .enum-told .given .1
 
--- src/judging.rt:110:17
-returns : tie.Need-returns
-returns c = ?
+  volume : opening .open .result .volume ≡ volumeOf image
+  volume = opening .open .ensures .1 opened
 
--- src/judging.rt:115:17
+-- Whether there is room, as the image says.
+room : (c : tie.After-is-roomy)
+    → c .is-roomy .result ≡ roomy (image (c .before)) (length (now (start (c .before) .args .area))) (length (now (start (c .before) .args .headers)))
+unfolding roomy
+room c =
+    let t = c .before in
+    let laid = says (image t) _ (volume t) in
+    c .is-roomy .ensures ∙ ap₂ (λ (n m : ℕ). leb n (length (now (start t .args .area))) && leb m (length (now (start t .args .headers)))) (laid .blocks) (laid .fmax)
+
 judge-opened-requires : tie.Need-judge-opened-requires
-judge-opened-requires c κs = ?
+judge-opened-requires c κs =
+    let f = c .before .before in
+    let t = f .before .before in
+    let r = roomy-is (image t) _ _ (sym (room (f .before)) ∙ f .if1 .taken) in
+    ((opened t, volume t), r .0, r .1)
 
--- src/judging.rt:118:26
-enum-known-opened : tie.Need-enum-known-opened
-enum-known-opened c = search needs
+returns : tie.Need-returns
+unfolding verdict ready blockMarks headerMarks unless _then_
+returns c =
+    let j = c .before .before .before .before in
+    let f = j .before .before .before in
+    let t = f .before .before in
+    let e = sym (room (f .before)) ∙ f .if1 .taken in
+    (rw (opened t, e) (j .judge-opened .ensures .0), λ p. volume t, rw (opened t, e) (j .judge-opened .ensures .1), rw (opened t, e) (j .judge-opened .ensures .2))
 
--- src/judging.rt:98:1
-same-length : tie.Need-same-length
-same-length c = search needs
-
--- src/judging.rt:98:1
-same-length-2 : tie.Need-same-length-2
-same-length-2 c = search needs
-
--- src/judging.rt:98:1
 returns-2 : tie.Need-returns-2
-returns-2 c = ?
+unfolding verdict ready blockMarks headerMarks afterwards unless _then_
+returns-2 c =
+    let t = c .before .before in
+    let e = sym (room (c .before)) ∙ c .if1 .left in
+    (rw (opened t, e) refl, λ p. volume t, rw (opened t, e) refl, rw (opened t, e) refl)
 
--- src/judging.rt:98:1
 returns-3 : tie.Need-returns-3
-returns-3 c = ?
+unfolding verdict ready blockMarks headerMarks afterwards _then_
+returns-3 c =
+    let o = c .before in
+    let op = o .before .before .before in
+    let e = sym (op .open .ensures .0) ∙ o .opened .given .1 in
+    (rw e refl, λ p. op .open .ensures .1 (passed-opens _ _ _ p), rw e refl, rw e refl)
 
 pub judge-volume-spec : {M : Type 1} → statement M
-judge-volume-spec =
-    tie.close
-    (tie.spec
-    open-requires
-    enum-told
-    cast-if1
-    cast-if1-2
-    returns
-    judge-opened-requires
-    enum-known-opened
-    same-length
-    same-length-2
-    returns-2
-    returns-3)
+judge-volume-spec = tie.close (tie.spec (search needs) (search needs) (search needs) judge-opened-requires (search needs) (search needs) (search needs) returns returns-2 returns-3)
