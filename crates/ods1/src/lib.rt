@@ -4,4 +4,5 @@ pub mod directories;
 pub mod files;
 pub mod names;
 pub mod sequence;
+pub mod verdicts;
 pub mod volumes;
