@@ -107,8 +107,8 @@ fn numbers_in_use(volume: &Volume) -> Vec<FileNumber> {
 /// not in use, or with sequence not n or segment not 0; or n in use without slot or not whole."
 fn files_offence(volume: &Volume, n: FileNumber) -> Option<Offence> {
     let in_use = volume.in_use(n);
-    let header = volume.slot(n);
     if n.0 <= LAST_KNOWN {
+        let header = volume.slot(n);
         let header = header.expect("the index file maps the first 16 slots");
         if !in_use {
             return Some(Offence::KnownNotInUse);
@@ -123,7 +123,7 @@ fn files_offence(volume: &Volume, n: FileNumber) -> Option<Offence> {
     if !in_use {
         return None;
     }
-    let Some(header) = header else {
+    let Some(header) = volume.slot(n) else {
         return Some(Offence::NoSlot);
     };
     let unmet = header.first_unmet(n, volume.image().blocks());

@@ -2,7 +2,7 @@
 //! it that breaks none. Each tells what a call then answers, by the paper and not by the model.
 
 mod chain;
-mod header;
+pub(crate) mod header;
 mod home;
 mod known;
 mod number;
