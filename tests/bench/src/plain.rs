@@ -633,7 +633,7 @@ mod tests {
     use volumes::accident::{random_changes, random_flaws};
     use volumes::damage::{damages, volumes_to_damage, Checksums};
     use volumes::directory::name_words;
-    use volumes::flaw::{flaws, volumes_to_judge};
+    use volumes::flaw::{each_flawed, volumes_to_judge};
     use volumes::shapes::{random_volume, Size};
     use volumes::{Random, Volume};
 
@@ -742,16 +742,11 @@ mod tests {
     fn flaws_are_judged_as_by_the_model() {
         let mut met = [0; 29];
         let volumes = volumes_to_judge(12, 6);
-        for flaw in flaws() {
-            for sound in &volumes {
-                let mut changed = sound.clone();
-                if sound.plan.blocks < 10_000 && flaw.apply(&mut changed).is_some() {
-                    let h_fmax = usize::from(sound.plan.h_fmax);
-                    let areas = (sound.plan.blocks as usize + 1, h_fmax + 1);
-                    expect_verdict(&mut met, &changed.image, areas);
-                }
-            }
-        }
+        each_flawed(&volumes[..9], |flawed| {
+            let plan = &flawed.sound.plan;
+            let areas = (plan.blocks as usize + 1, usize::from(plan.h_fmax) + 1);
+            expect_verdict(&mut met, &flawed.changed.image, areas);
+        });
         for seed in 0..1_000 {
             let mut random = Random::new(seed);
             let mut changed = random_volume(&mut random, Size::Small);

@@ -54,8 +54,15 @@ impl Flaw {
     }
 
     /// Changes a sound volume, and answers what the verdict then is; none where this flaw does not
-    /// apply.
+    /// apply. A volume that another flaw has changed can be changed further; what is then answered
+    /// holds of this flaw alone.
     pub fn apply(&self, volume: &mut Volume) -> Option<Judged> {
+        let roles = volume.roles;
+        let needed = [3, 4, 5, roles.plain, roles.chained, roles.empty];
+        let has = |number: &u16| volume.files.iter().any(|file| file.number() == *number);
+        if !needed.iter().all(has) {
+            return None;
+        }
         let offenders = (self.edit)(volume)?;
         let lowest = offenders.into_iter().min();
         Some(match lowest {
@@ -75,6 +82,46 @@ pub fn flaws() -> Vec<Flaw> {
     all.extend(map::flaws());
     all.extend(order::flaws());
     all
+}
+
+/// A volume with a flaw: the flaw, the sound volume, the changed one, and what the verdict then is.
+pub struct Flawed<'a> {
+    pub flaw: &'a Flaw,
+    pub sound: &'a Volume,
+    pub changed: Volume,
+    pub judged: Judged,
+}
+
+/// From so many blocks on a volume takes long to change and to judge.
+const LARGE: u32 = 2_000;
+
+/// Gives each flaw on each volume that it applies to; on large volumes a quarter of those that small
+/// ones have shown often enough. Answers the flaws that apply to none.
+pub fn each_flawed(volumes: &[Volume], mut each: impl FnMut(Flawed)) -> Vec<String> {
+    let mut none = Vec::new();
+    for (number, flaw) in flaws().iter().enumerate() {
+        let mut applied = 0;
+        for (place, sound) in volumes.iter().enumerate() {
+            let is_shown = applied >= 6 && (number + place) % 4 != 0;
+            if sound.plan.blocks > LARGE && is_shown {
+                continue;
+            }
+            let mut changed = sound.clone();
+            if let Some(judged) = flaw.apply(&mut changed) {
+                applied += 1;
+                each(Flawed {
+                    flaw,
+                    sound,
+                    changed,
+                    judged,
+                });
+            }
+        }
+        if applied == 0 {
+            none.push(flaw.name.clone());
+        }
+    }
+    none
 }
 
 /// No offender: the volume stays sound, once its storage map is put right.
@@ -200,26 +247,19 @@ mod tests {
         let mut blocks = vec![0; 13_000];
         let mut headers = vec![0; 65_535];
         let mut met = BTreeMap::new();
-        for flaw in flaws() {
-            let mut applied = 0;
-            for sound in &volumes {
-                let mut changed = sound.clone();
-                let Some(expected) = flaw.apply(&mut changed) else {
-                    continue;
-                };
-                applied += 1;
-                let (name, built) = (&flaw.name, sound.describe());
-                assert!(volume::open(&changed.image).is_ok(), "{name}, {built}");
-                let judged = judged(&changed.image, &mut blocks, &mut headers);
-                assert_eq!(judged, expected, "{name}, {built}");
-                let number = match expected {
-                    Judged::Accepted => Number::Done,
-                    Judged::Refused(number, _) => number,
-                };
-                *met.entry(number.number()).or_insert(0) += 1;
-            }
-            assert!(applied > 0, "{} does not apply", flaw.name);
-        }
+        let none = each_flawed(&volumes, |flawed| {
+            let image = &flawed.changed.image;
+            let (name, built) = (&flawed.flaw.name, flawed.sound.describe());
+            assert!(volume::open(image).is_ok(), "{name}, {built}");
+            let judged = judged(image, &mut blocks, &mut headers);
+            assert_eq!(judged, flawed.judged, "{name}, {built}");
+            let number = match judged {
+                Judged::Accepted => Number::Done,
+                Judged::Refused(number, _) => number,
+            };
+            *met.entry(number.number()).or_insert(0) += 1;
+        });
+        assert!(none.is_empty(), "{none:?} do not apply");
         for number in [0, 17, 18, 19, 20, 21] {
             let times = met.get(&number).copied().unwrap_or(0);
             assert!(times >= 60, "number {number} {times} times");

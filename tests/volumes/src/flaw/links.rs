@@ -170,7 +170,7 @@ fn sequences_and_segments() -> Vec<Flaw> {
             Some(vec![chain[chain.len() - 2].number])
         }),
         flaw("segment of the last one less", |volume, chain| {
-            let segment = last(chain).segment - 1;
+            let segment = last(chain).segment.checked_sub(1)?;
             volume.edit_header(last(chain).number, |header| header.segment = segment);
             Some(vec![chain[chain.len() - 2].number])
         }),
@@ -184,7 +184,7 @@ fn sequences_and_segments() -> Vec<Flaw> {
             Some(vec![chain[0].number])
         }),
         flaw("every segment one more", |volume, chain| {
-            if last(chain).segment == 255 {
+            if chain.iter().any(|header| header.segment == 255) {
                 return None;
             }
             for header in chain {
