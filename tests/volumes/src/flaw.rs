@@ -25,6 +25,9 @@ pub enum Judged {
     Refused(Number, u64),
 }
 
+/// A header of a volume, by its number.
+type Which = fn(&Volume) -> u16;
+
 /// The offenders of a rule, in any order: numbers, LBNs or bits. None at all where nothing is wrong.
 type Offenders = Vec<u32>;
 

@@ -1,7 +1,7 @@
 //! Flaws of BADHOME: "a home position below the home, not covered by a header of file 3".
 
-use super::{add_pointer, free_lbns, still_sound, Flaw, Offenders};
-use crate::header::{pointers_of, Areas, Header, Pointer};
+use super::{add_pointer, free_lbns, still_sound, Flaw, Offenders, Which};
+use crate::header::{pointers_of, Areas, Header};
 use crate::shapes::home_positions;
 use crate::volume::{File, Volume};
 use model::Number;
@@ -163,7 +163,7 @@ fn missing() -> Vec<Flaw> {
 /// Positions that another file covers.
 fn of_other_files() -> Vec<Flaw> {
     let mut all = Vec::new();
-    let others: [(&str, fn(&Volume) -> u16); 6] = [
+    let others: [(&str, Which); 6] = [
         ("file 1", |_| 1),
         ("file 4", |_| 4),
         ("file 5", |_| 5),
@@ -293,11 +293,7 @@ fn nothing_passed_over() -> Vec<Flaw> {
             if *covered.get(256)? {
                 return None;
             }
-            let position = Pointer {
-                lbn: 256,
-                blocks: 1,
-            };
-            add_pointer(volume, volume.roles.plain, position.lbn, position.blocks)
+            add_pointer(volume, volume.roles.plain, 256, 1)
         }),
     ]
 }

@@ -1,11 +1,11 @@
 //! Flaws of FILES: "number n, at most H.FMAX: n ≤ 5 not in use, or with sequence not n or segment
 //! not 0; or n in use without slot or not whole".
 
-use super::{break_header, still_sound, Flaw, Offenders};
+use super::{add_header, break_header, still_sound, Flaw, Offenders};
 use crate::block::seal_header;
 use crate::damage::header::{Change, Target, CHECKSUMS, NOT_WHOLE, WHOLE};
 use crate::header::{pointers_of, Areas, Header, Pointer};
-use crate::volume::{Volume, MAP_BITS};
+use crate::volume::{put_bit, Volume, MAP_BITS};
 use model::Number;
 
 /// A flaw of FILES.
@@ -134,7 +134,7 @@ fn unused() -> Vec<Flaw> {
             Some(vec![number.into()])
         }),
         flaw("put in use, with a whole header", |volume| {
-            super::add_header(volume, 7, 0)?;
+            add_header(volume, 7, 0)?;
             still_sound(volume)
         }),
         flaw("not in use, with a slot of ones", |volume| {
@@ -161,7 +161,7 @@ fn unused() -> Vec<Flaw> {
             let map = volume.plan.h_iblb as usize * 512;
             let bits = volume.plan.index_map_blocks() * MAP_BITS;
             for bit in u32::from(volume.plan.h_fmax)..bits {
-                crate::volume::put_bit(&mut volume.image[map..], bit, true);
+                put_bit(&mut volume.image[map..], bit, true);
             }
             still_sound(volume)
         }),

@@ -1,7 +1,7 @@
 //! Flaws of TWICE: "LBN covered by two places in pointers of headers in use".
 
-use super::{add_header, add_pointer, free_lbns, free_run, still_sound, Flaw, Offenders};
-use crate::header::{Pointer, MOST_POINTERS};
+use super::{add_header, add_pointer, free_lbns, free_run, still_sound, Flaw, Offenders, Which};
+use crate::header::{Areas, Pointer, MOST_POINTERS};
 use crate::volume::Volume;
 use model::Number;
 
@@ -72,7 +72,7 @@ const TAKEN: &[(&str, Taken)] = &[
 ];
 
 /// The headers that cover a block again, by their numbers.
-const COVERING: &[(&str, fn(&Volume) -> u16)] = &[
+const COVERING: &[(&str, Which)] = &[
     ("the only header", |volume| volume.roles.plain),
     ("the last header", |volume| {
         let chain = &volume.file(volume.roles.chained).headers;
@@ -210,7 +210,7 @@ fn known_files() -> Vec<Flaw> {
             }
             volume.edit_header(2, |header| {
                 header.pointers = vec![Pointer { lbn, blocks: 1 }, Pointer { lbn, blocks: q }];
-                header.areas = crate::header::Areas::LARGEST;
+                header.areas = Areas::LARGEST;
             });
             Some(vec![lbn])
         }),
