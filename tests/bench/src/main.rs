@@ -2,7 +2,8 @@
 //!
 //! Both sides answer the same twelve words, which is checked. They take turns round by round, so
 //! that what disturbs one disturbs the other. A line of the table gives the median time of a call
-//! on each side, and the ratio library/Rust: below 1 the library is faster.
+//! on each side, and the ratio library/Rust: below 1 the library is faster. The verdict is also held
+//! against reading the headers in use and both maps once and nothing more, eight bytes at a time.
 //!
 //! The Rust side is built as the default release profile builds it, without the overflow checks
 //! that the tests have, and the library's calls go through the checking wrappers that the tests
@@ -11,8 +12,10 @@
 #![forbid(unsafe_code)]
 
 mod plain;
+mod volumes_to_judge;
 
 use plain::Answer;
+use std::cell::RefCell;
 use std::hint::black_box;
 use std::time::{Duration, Instant};
 use volumes::directory::name_words;
@@ -30,25 +33,57 @@ const MOST_ROUNDS: usize = 101;
 /// A side of a case: makes all calls of a round, and answers a number that depends on every answer.
 type Side<'a> = &'a dyn Fn() -> u64;
 
-/// A case: what it is called, how many calls a round has, and the two sides.
+/// A case: what it is called, how many calls a round has, and the two sides; and a third where the
+/// bare reading is measured too.
 struct Case<'a> {
     name: &'a str,
     calls: u64,
     library: Side<'a>,
     plain: Side<'a>,
+    bare: Option<Side<'a>>,
+}
+
+/// The nanoseconds of a call on each side.
+struct Measured {
+    rounds: usize,
+    library: f64,
+    plain: f64,
+    bare: Option<f64>,
 }
 
 impl Case<'_> {
     /// Measures the case, and prints its line.
     fn run(&self) {
+        let measured = self.measure(BUDGET);
+        let Measured {
+            rounds,
+            library,
+            plain,
+            bare,
+        } = measured;
+        let bare = match bare {
+            Some(bare) => format!(" {bare:>12.1} {:>8.2}", library / bare),
+            None => String::new(),
+        };
+        println!(
+            "{:<52} {:>8} {rounds:>6} {library:>12.1} {plain:>12.1} {:>8.2}{bare}",
+            self.name,
+            self.calls,
+            library / plain
+        );
+    }
+
+    /// Measures the case for about so long.
+    fn measure(&self, budget: Duration) -> Measured {
         // The first rounds warm up, and show that both sides answer the same.
         let started = Instant::now();
         let (by_library, by_plain) = ((self.library)(), (self.plain)());
         assert_eq!(by_library, by_plain, "{}: the answers differ", self.name);
-        let rounds = rounds_in_budget(started.elapsed() / 2);
+        let rounds = rounds_in_budget(budget, started.elapsed() / 2);
 
         let mut library = Vec::new();
         let mut plain = Vec::new();
+        let mut bare = Vec::new();
         for round in 0..rounds {
             // Who goes first changes from round to round.
             if round % 2 == 0 {
@@ -58,21 +93,22 @@ impl Case<'_> {
                 plain.push(time(self.plain));
                 library.push(time(self.library));
             }
+            if let Some(side) = self.bare {
+                bare.push(time(side));
+            }
         }
-        let library = per_call(median(library), self.calls);
-        let plain = per_call(median(plain), self.calls);
-        println!(
-            "{:<52} {:>8} {rounds:>6} {library:>12.1} {plain:>12.1} {:>8.2}",
-            self.name,
-            self.calls,
-            library / plain
-        );
+        Measured {
+            rounds,
+            library: per_call(median(library), self.calls),
+            plain: per_call(median(plain), self.calls),
+            bare: self.bare.map(|_| per_call(median(bare), self.calls)),
+        }
     }
 }
 
-/// How many rounds of this length the budget has; an odd number, so that there is a median.
-fn rounds_in_budget(round: Duration) -> usize {
-    let rounds = BUDGET.as_nanos() / round.as_nanos().max(1);
+/// How many rounds of this length a budget has; an odd number, so that there is a median.
+fn rounds_in_budget(budget: Duration, round: Duration) -> usize {
+    let rounds = budget.as_nanos() / round.as_nanos().max(1);
     (rounds as usize).clamp(LEAST_ROUNDS, MOST_ROUNDS) | 1
 }
 
@@ -235,6 +271,7 @@ fn map_every_vbn(name: &str, image: &[u8], blocks: u32) {
         calls: u64::from(blocks) + 1,
         library: &library,
         plain: &plain,
+        bare: None,
     }
     .run();
 }
@@ -258,6 +295,7 @@ fn open_volume(name: &str, image: &[u8]) {
         calls: CALLS,
         library: &library,
         plain: &plain,
+        bare: None,
     }
     .run();
 }
@@ -283,6 +321,7 @@ fn look_up_absent(name: &str, image: &[u8]) {
         calls: CALLS,
         library: &library,
         plain: &plain,
+        bare: None,
     }
     .run();
 }
@@ -312,14 +351,114 @@ fn walk_directory(name: &str, image: &[u8]) {
         calls,
         library: &|| walk(by_library).0,
         plain: &|| walk(by_plain).0,
+        bare: None,
     }
     .run();
 }
 
+/// The sum of bytes, eight at a time.
+fn sum_of(bytes: &[u8]) -> u64 {
+    let words = bytes.chunks_exact(8);
+    words.fold(0, |sum: u64, eight| {
+        let word = u64::from_le_bytes(eight.try_into().expect("eight bytes"));
+        sum.wrapping_add(word)
+    })
+}
+
+/// The sides of judging a volume, for as long as `measure` takes.
+fn judging<Measured>(
+    name: &str,
+    volume: &Volume,
+    measure: impl FnOnce(Case) -> Measured,
+) -> Measured {
+    let image = &volume.image[..];
+    let plan = &volume.plan;
+    let areas = || (vec![0; plan.blocks as usize], vec![0; plan.h_fmax.into()]);
+    let (by_library, by_plain) = (RefCell::new(areas()), RefCell::new(areas()));
+    let library = || {
+        let (blocks, headers) = &mut *by_library.borrow_mut();
+        mix(0, &library::judge(black_box(image), blocks, headers))
+    };
+    let plain = || {
+        let (blocks, headers) = &mut *by_plain.borrow_mut();
+        let call = |answer: &mut Answer| plain::judge(black_box(image), blocks, headers, answer);
+        mix(0, &answer_of(call))
+    };
+    // The slots of headers in use, and the blocks of both maps.
+    let slots: Vec<u32> = volume
+        .headers()
+        .map(|it| volume.slot_of(it.number))
+        .collect();
+    let maps = [
+        (plan.h_iblb, plan.index_map_blocks()),
+        (plan.storage_map, plan.storage_map_blocks()),
+    ];
+    let bare = || {
+        let image = black_box(image);
+        let read = |lbn: u32, blocks: u32| {
+            sum_of(&image[512 * lbn as usize..512 * (lbn + blocks) as usize])
+        };
+        let headers = slots
+            .iter()
+            .fold(0, |sum: u64, &lbn| sum.wrapping_add(read(lbn, 1)));
+        let maps = maps.map(|(lbn, blocks)| read(lbn, blocks));
+        headers.wrapping_add(maps[0]).wrapping_add(maps[1])
+    };
+    let measured = measure(Case {
+        name,
+        calls: 1,
+        library: &library,
+        plain: &plain,
+        bare: Some(&bare),
+    });
+    assert!(by_library == by_plain, "{name}: the marks differ");
+    measured
+}
+
+/// The verdict on a volume that is accepted, with so many headers in use.
+fn judge(name: &str, volume: &Volume, headers: u64) {
+    let mut areas = (vec![0; volume.plan.blocks as usize], vec![0; 65_535]);
+    let answer = answer_of(|answer| {
+        plain::judge(&volume.image, &mut areas.0, &mut areas.1, answer);
+    });
+    assert_eq!((answer[0], answer[5]), (0, headers), "{name}");
+    judging(name, volume, |case| case.run());
+}
+
+/// A budget for each size of a table that shows how the cost grows.
+const SHORT: Duration = Duration::from_millis(800);
+
+/// How the cost of the verdict grows: for each size, the time of a call, and what each block or
+/// number more has cost since the size before.
+fn judge_sizes(title: &str, sizes: &[u32], volume: impl Fn(u32) -> Volume) {
+    println!(
+        "\n{title:<40} {:>12} {:>12} {:>8} {:>16} {:>16}",
+        "library ns", "Rust ns", "ratio", "library ns more", "Rust ns more"
+    );
+    let mut before: Option<(u32, Measured)> = None;
+    for &size in sizes {
+        let volume = volume(size);
+        let measured = judging(title, &volume, |case| case.measure(SHORT));
+        let more = before.map_or(String::new(), |(last, before)| {
+            let each = |now: f64, then: f64| (now - then) / f64::from(size - last);
+            let library = each(measured.library, before.library);
+            let plain = each(measured.plain, before.plain);
+            format!(" {library:>16.3} {plain:>16.3}")
+        });
+        println!(
+            "{size:<40} {:>12.0} {:>12.0} {:>8.2}{more}",
+            measured.library,
+            measured.plain,
+            measured.library / measured.plain
+        );
+        before = Some((size, measured));
+    }
+}
+
 fn main() {
     println!(
-        "{:<52} {:>8} {:>6} {:>12} {:>12} {:>8}",
-        "", "calls", "rounds", "library ns", "Rust ns", "ratio"
+        "{:<52} {:>8} {:>6} {:>12} {:>12} {:>8} {:>12} {:>8}",
+        "", "calls", "rounds", "library ns", "Rust ns", "ratio", "reading ns", "ratio"
     );
     let rl02 = rl02();
     let image = &rl02.image[..];
@@ -332,4 +471,25 @@ fn main() {
     map_every_vbn(name, image, 104_448);
     open_volume("open volume, 1,044,480 blocks", image);
     walk_directory("walk a directory of 64 blocks by next_record", image);
+    drop(largest);
+
+    let volume = volumes_to_judge::rl02_of_files();
+    judge("verdict, RL02, 2,000 files", &volume, 2_005);
+    let volume = volumes_to_judge::rl02_of_chains();
+    judge("verdict, RL02, 400 files of 5 headers", &volume, 2_005);
+    let volume = volumes_to_judge::rl02_with_a_later_home();
+    judge("verdict, RL02, 2,000 files, home at 512", &volume, 2_005);
+    let volume = volumes_to_judge::largest();
+    judge("verdict, 1,044,480 blocks, 28,910 headers", &volume, 28_910);
+    drop(volume);
+    judge_sizes(
+        "verdict by N, 4,096 headers",
+        &[65_280, 130_560, 261_120, 522_240, 1_044_480],
+        volumes_to_judge::of_blocks,
+    );
+    judge_sizes(
+        "verdict by H.FMAX, all in use, N 262,144",
+        &[1_800, 3_600, 7_200, 14_400, 28_800],
+        volumes_to_judge::of_h_fmax,
+    );
 }

@@ -1,5 +1,5 @@
-//! The reading calls in plain Rust: the same work as the exported calls do, on slices, without
-//! allocation and without proofs. Each call opens the volume anew, as theirs do.
+//! The reading calls and the verdict in plain Rust: the same work as the exported calls do, on
+//! slices, without allocation and without proofs. Each call opens the volume anew, as theirs do.
 
 /// An answer as the exported calls write it: number, place, ten value words.
 pub type Answer = [u64; 12];
@@ -25,6 +25,12 @@ const CHAIN: Refusal = 12;
 const VBN: Refusal = 13;
 const NAME: Refusal = 14;
 const ABSENT: Refusal = 15;
+const WORK: Refusal = 16;
+const FILES: Refusal = 17;
+const LINKS: Refusal = 18;
+const TWICE: Refusal = 19;
+const BADHOME: Refusal = 20;
+const MAP: Refusal = 21;
 
 /// A word, low byte first.
 fn word(bytes: &[u8], at: usize) -> u16 {
@@ -108,6 +114,12 @@ impl<'a> Header<'a> {
         (fits && header.pointers().iter().all(below)).then_some(header)
     }
 
+    /// The header in a block that is known to be whole.
+    fn known(block: &'a [u8; BLOCK]) -> Header<'a> {
+        let map = &block[2 * usize::from(block[1])..];
+        Header { block, map }
+    }
+
     fn pointers(&self) -> Pointers<'a> {
         Pointers(&self.map[10..10 + 2 * usize::from(self.map[8])])
     }
@@ -141,6 +153,8 @@ struct Volume<'a> {
     /// m, the blocks of the index map.
     m: u32,
     index: Pointers<'a>,
+    /// The LBN of the first block of bits of the storage map.
+    bits: u32,
 }
 
 /// Whether a block is a home block.
@@ -175,7 +189,7 @@ impl<'a> Volume<'a> {
         }
         let header = Header::whole(block(image, h_iblb + m), 1, blocks);
         let header = header.filter(|it| it.is_known(1)).ok_or(INDEX)?;
-        let volume = Volume {
+        let mut volume = Volume {
             image,
             blocks,
             home,
@@ -183,13 +197,12 @@ impl<'a> Volume<'a> {
             h_iblb,
             m,
             index: header.pointers(),
+            bits: 0,
         };
         if !volume.index_is_right() {
             return Err(INDEX);
         }
-        if !volume.storage_is_right() {
-            return Err(STORAGE);
-        }
+        volume.bits = volume.storage_bits().ok_or(STORAGE)?;
         Ok(volume)
     }
 
@@ -202,32 +215,36 @@ impl<'a> Volume<'a> {
         expected.all(|lbn| mapped.next() == Some(lbn))
     }
 
-    /// Whether the storage map file is right.
-    fn storage_is_right(&self) -> bool {
+    /// Where the bits of the storage map start, if its file is right.
+    fn storage_bits(&self) -> Option<u32> {
         let q = self.blocks.div_ceil(4_096);
         let header = Header::whole(block(self.image, self.h_iblb + self.m + 1), 2, self.blocks);
-        let Some(header) = header.filter(|it| it.is_known(2)) else {
-            return false;
-        };
+        let header = header.filter(|it| it.is_known(2))?;
         let pointers = header.pointers();
-        let mut counts = pointers.iter().map(|(_, blocks)| blocks);
-        let shape = match (counts.len(), counts.next()) {
-            (1, Some(first)) => first == 1 + q,
-            (2, Some(first)) => first == 1 && counts.next() == Some(q),
-            _ => false,
+        let mut pointers = pointers.iter();
+        let (control, bits) = match (pointers.next(), pointers.next(), pointers.next()) {
+            (Some((lbn, blocks)), None, None) if blocks == 1 + q => (lbn, lbn + 1),
+            (Some((lbn, 1)), Some((bits, blocks)), None) if blocks == q => (lbn, bits),
+            _ => return None,
         };
-        let control = pointers.iter().next().map(|(lbn, _)| lbn);
-        shape && control.is_some_and(|lbn| u32::from(block(self.image, lbn)[3]) == q)
+        (u32::from(block(self.image, control)[3]) == q).then_some(bits)
+    }
+
+    /// The bytes of the index map.
+    fn index_map(&self) -> &'a [u8] {
+        let start = self.h_iblb as usize * BLOCK;
+        &self.image[start..start + self.m as usize * BLOCK]
+    }
+
+    /// Whether a number from 1 to H.FMAX is in use.
+    fn in_use(&self, number: u32) -> bool {
+        let bit = number as usize - 1;
+        self.index_map()[bit / 8] >> (bit % 8) & 1 == 1
     }
 
     /// The block of a number's slot, if it is in use and has one.
     fn slot(&self, number: u16) -> Option<&'a [u8; BLOCK]> {
-        if number == 0 || number > self.h_fmax {
-            return None;
-        }
-        let bit = usize::from(number) - 1;
-        let map = &self.image[self.h_iblb as usize * BLOCK..];
-        if map[bit / 8] >> (bit % 8) & 1 == 0 {
+        if number == 0 || number > self.h_fmax || !self.in_use(number.into()) {
             return None;
         }
         let lbn = self.index.lbn(1 + self.m + u32::from(number)).ok()?;
@@ -435,13 +452,188 @@ fn find_record(image: &[u8], id: [u16; 3], place: u32) -> Option<(&[u8], u32)> {
     found
 }
 
+/// As `ods1_judge`.
+#[inline(never)]
+pub fn judge(image: &[u8], blocks: &mut [u8], headers: &mut [u8], answer: &mut Answer) {
+    *answer = [0; 12];
+    match verdict(image, blocks, headers) {
+        Ok(counts) => answer[2..6].copy_from_slice(&counts),
+        Err((number, place)) => answer[..2].copy_from_slice(&[number, place.into()]),
+    }
+}
+
+/// A refusal, and its place.
+type Placed = (Refusal, u32);
+
+fn verdict(image: &[u8], blocks: &mut [u8], headers: &mut [u8]) -> Result<[u64; 4], Placed> {
+    let volume = Volume::open(image).map_err(|number| (number, 0))?;
+    if blocks.len() < volume.blocks as usize || headers.len() < usize::from(volume.h_fmax) {
+        return Err((WORK, 0));
+    }
+    let blocks = &mut blocks[..volume.blocks as usize];
+    let headers = &mut headers[..usize::from(volume.h_fmax)];
+    volume.judge_files()?;
+    volume.mark_links(headers);
+    volume.judge_links(headers)?;
+    volume.mark_blocks(blocks);
+    match blocks.iter().position(|&mark| mark > 1) {
+        Some(lbn) => return Err((TWICE, lbn as u32)),
+        None => volume.judge_badhome(blocks)?,
+    }
+    volume.judge_map(blocks)?;
+    let claimed = blocks.iter().filter(|&&mark| mark > 0).count();
+    let free = volume.storage_map().iter();
+    let free: u64 = free.map(|byte| u64::from(byte.count_ones())).sum();
+    let in_use = (1..=u32::from(volume.h_fmax)).filter(|&number| volume.in_use(number));
+    let headers = in_use.count() as u64;
+    Ok([volume.blocks.into(), claimed as u64, free, headers])
+}
+
+/// A mark one higher, but not above 2.
+fn raised(mark: u8) -> u8 {
+    (mark + 1).min(2)
+}
+
+impl<'a> Volume<'a> {
+    /// The bytes of the storage map's bits.
+    fn storage_map(&self) -> &'a [u8] {
+        let start = self.bits as usize * BLOCK;
+        let length = self.blocks.div_ceil(4_096) as usize * BLOCK;
+        &self.image[start..start + length]
+    }
+
+    /// The block of each slot of a number up to H.FMAX, run by run.
+    fn slots(&self) -> impl Iterator<Item = &'a [u8; BLOCK]> + '_ {
+        let pointers = self.index.iter();
+        let lbns = pointers.flat_map(|(lbn, blocks)| lbn..lbn + blocks);
+        let lbns = lbns.skip(2 + self.m as usize).take(self.h_fmax.into());
+        lbns.map(|lbn| block(self.image, lbn))
+    }
+
+    /// The number and header of each number in use: all have a slot and are whole.
+    fn headers_in_use(&self) -> impl Iterator<Item = (u32, Header<'a>)> + '_ {
+        let slots = (1..).zip(self.slots());
+        let in_use = slots.filter(|&(number, _)| self.in_use(number));
+        in_use.map(|(number, slot)| (number, Header::known(slot)))
+    }
+
+    fn judge_files(&self) -> Result<(), Placed> {
+        let mut last = 0;
+        for (number, slot) in (1..).zip(self.slots()) {
+            last = number;
+            if self.in_use(number) {
+                let header = Header::whole(slot, number as u16, self.blocks);
+                let header = header.ok_or((FILES, number))?;
+                let own = u32::from(header.sequence()) == number && header.segment() == 0;
+                if number <= 5 && !own {
+                    return Err((FILES, number));
+                }
+            } else if number <= 5 {
+                return Err((FILES, number));
+            }
+        }
+        let mut without = last + 1..=u32::from(self.h_fmax);
+        match without.find(|&number| self.in_use(number)) {
+            Some(number) => Err((FILES, number)),
+            None => Ok(()),
+        }
+    }
+
+    /// Marks how many headers link to each number.
+    fn mark_links(&self, marks: &mut [u8]) {
+        marks.fill(0);
+        for (_, header) in self.headers_in_use() {
+            let (number, _) = header.link();
+            // Number 0 becomes the last of all, which is past the marks.
+            if let Some(mark) = marks.get_mut(usize::from(number).wrapping_sub(1)) {
+                *mark = raised(*mark);
+            }
+        }
+    }
+
+    fn judge_links(&self, marks: &[u8]) -> Result<(), Placed> {
+        for (number, header) in self.headers_in_use() {
+            let linked = marks[number as usize - 1];
+            let expected = u8::from(header.segment() > 0);
+            if linked != expected || !self.link_is_good(header) {
+                return Err((LINKS, number));
+            }
+        }
+        Ok(())
+    }
+
+    /// Whether the link of a header is good. A header in use is whole.
+    fn link_is_good(&self, header: Header) -> bool {
+        let (number, sequence) = header.link();
+        if number == 0 {
+            return true;
+        }
+        let next = self.slot(number).map(Header::known);
+        next.is_some_and(|next| {
+            let segment = u16::from(header.segment()) + 1;
+            next.sequence() == sequence && u16::from(next.segment()) == segment
+        })
+    }
+
+    /// Marks how often each block is covered.
+    fn mark_blocks(&self, marks: &mut [u8]) {
+        marks.fill(0);
+        for (_, header) in self.headers_in_use() {
+            for (lbn, blocks) in header.pointers().iter() {
+                let run = lbn as usize..(lbn + blocks) as usize;
+                marks[run].iter_mut().for_each(|mark| *mark = raised(*mark));
+            }
+        }
+    }
+
+    /// Marks the blocks of file 3 with 2 for a while.
+    fn judge_badhome(&self, marks: &mut [u8]) -> Result<(), Placed> {
+        if self.home == 1 {
+            return Ok(());
+        }
+        let mut number = 3;
+        while number != 0 {
+            let header = Header::known(self.slot(number).expect("LINKS passed"));
+            for (lbn, blocks) in header.pointers().iter() {
+                marks[lbn as usize..(lbn + blocks) as usize].fill(2);
+            }
+            number = header.link().0;
+        }
+        let mut positions = std::iter::once(1).chain((256..self.home).step_by(256));
+        let missing = positions.find(|&lbn| marks[lbn as usize] != 2);
+        marks.iter_mut().for_each(|mark| *mark = (*mark).min(1));
+        match missing {
+            Some(position) => Err((BADHOME, position)),
+            None => Ok(()),
+        }
+    }
+
+    fn judge_map(&self, marks: &[u8]) -> Result<(), Placed> {
+        let map = self.storage_map();
+        for (place, (&byte, marks)) in map.iter().zip(marks.chunks(8)).enumerate() {
+            for (bit, &mark) in marks.iter().enumerate() {
+                if byte >> bit & 1 == mark.min(1) {
+                    return Err((MAP, (8 * place + bit) as u32));
+                }
+            }
+        }
+        for bit in marks.len()..8 * map.len() {
+            if map[bit / 8] >> (bit % 8) & 1 == 1 {
+                return Err((MAP, bit as u32));
+            }
+        }
+        Ok(())
+    }
+}
+
 #[cfg(test)]
 mod tests {
     use super::*;
-    use model::{directory, file, volume, Id, Name, Number, Vbn};
-    use volumes::accident::random_changes;
+    use model::{directory, file, verdict, volume, Id, Name, Number, Vbn};
+    use volumes::accident::{random_changes, random_flaws};
     use volumes::damage::{damages, volumes_to_damage, Checksums};
     use volumes::directory::name_words;
+    use volumes::flaw::{each_flawed, volumes_to_judge};
     use volumes::shapes::{random_volume, Size};
     use volumes::{Random, Volume};
 
@@ -502,9 +694,22 @@ mod tests {
         }
     }
 
-    /// Sees that every answer of the reading calls was met.
-    fn expect_met(met: &Met) {
-        for number in Number::all().filter(|number| number.number() <= 15) {
+    /// Sees that the verdict and its marks are as the model's.
+    fn expect_verdict(met: &mut Met, image: &[u8], areas: (usize, usize)) {
+        let (mut blocks, mut headers) = (vec![0xa5; areas.0], vec![0x5a; areas.1]);
+        let (mut expected_blocks, mut expected_headers) = (blocks.clone(), headers.clone());
+        let answer = answer_of(met, |answer| {
+            judge(image, &mut blocks, &mut headers, answer);
+        });
+        let expected = verdict::judge(image, &mut expected_blocks, &mut expected_headers);
+        assert_eq!(answer, expected.words());
+        assert_eq!(blocks, expected_blocks);
+        assert_eq!(headers, expected_headers);
+    }
+
+    /// Sees that every answer of some calls was met.
+    fn expect_met(met: &Met, numbers: std::ops::RangeInclusive<u64>) {
+        for number in Number::all().filter(|number| numbers.contains(&number.number())) {
             let times = met[number.number() as usize];
             assert!(times > 20, "{} {times} times", number.name());
         }
@@ -530,6 +735,27 @@ mod tests {
             expect_image(&mut met, &sound, &damaged.image);
             expect_image(&mut met, &sound, &damaged.image[1..]);
         }
-        expect_met(&met);
+        expect_met(&met, 0..=15);
+    }
+
+    #[test]
+    fn flaws_are_judged_as_by_the_model() {
+        let mut met = [0; 29];
+        let volumes = volumes_to_judge(12, 6);
+        each_flawed(&volumes[..9], |flawed| {
+            let plan = &flawed.sound.plan;
+            let areas = (plan.blocks as usize + 1, usize::from(plan.h_fmax) + 1);
+            expect_verdict(&mut met, &flawed.changed.image, areas);
+        });
+        for seed in 0..1_000 {
+            let mut random = Random::new(seed);
+            let mut changed = random_volume(&mut random, Size::Small);
+            random_flaws(&mut random, &mut changed);
+            let (blocks, h_fmax) = (changed.plan.blocks as usize, changed.plan.h_fmax.into());
+            expect_verdict(&mut met, &changed.image, (blocks, h_fmax));
+            expect_verdict(&mut met, &changed.image, (blocks - 1, h_fmax));
+            expect_verdict(&mut met, &changed.image, (blocks, h_fmax - 1));
+        }
+        expect_met(&met, 16..=21);
     }
 }

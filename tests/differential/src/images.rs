@@ -171,3 +171,13 @@ fn link_number(link: BadLink) -> u64 {
         BadLink::Segment => 16,
     }
 }
+
+/// A number that changes with the bytes of an image: one that is too large to be lent by copy is
+/// lent as it is, and its number is the same before and after.
+pub fn digest(image: &[u8]) -> u64 {
+    let words = image.chunks_exact(8);
+    words.fold(1, |digest: u64, eight| {
+        let word = u64::from_le_bytes(eight.try_into().expect("eight bytes"));
+        digest.rotate_left(5) ^ word.wrapping_mul(0x9e37_79b9_7f4a_7c15)
+    })
+}

@@ -3,6 +3,7 @@
 //! * [`run`]: numbers and counts the cases of a test, and reports a case that differs;
 //! * [`names`]: the comparisons of the calls on names, and the names and texts that they use;
 //! * [`images`]: the comparisons of the calls on images;
+//! * [`judging`]: the comparisons of the verdict, with its work areas;
 //! * [`asked`]: the IDs, VBNs, names and record places that are asked of a volume.
 //!
 //! The environment changes a run:
@@ -16,6 +17,7 @@
 
 pub mod asked;
 pub mod images;
+pub mod judging;
 pub mod names;
 pub mod run;
 

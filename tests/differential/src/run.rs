@@ -231,13 +231,14 @@ impl Run {
 }
 
 /// The kinds of things met that are calls, and their numbers answers.
-pub const CALLS: [&str; 6] = [
+pub const CALLS: [&str; 7] = [
     "open_volume",
     "open_file",
     "map",
     "block",
     "look_up",
     "next_record",
+    "judge",
 ];
 
 /// Tells something past the test harness, which keeps back what a passing test prints.

@@ -3,6 +3,7 @@
 
 use differential::asked::{ids, some_of_volume};
 use differential::images::{Asked, Call, Subject, BAD_LINK, UNMET_TEST};
+use differential::judging::{Desk, OFFENCE};
 use differential::{Random, Run};
 use library::Lender;
 use model::Id;
@@ -20,9 +21,17 @@ fn call_of(expected: Expected) -> Call {
     }
 }
 
-/// Compares a damaged volume with the model. Calls are chosen from what was there before.
-fn compare_damaged(run: &mut Run, random: &mut Random, sound: &Volume, subject: &Subject) {
+/// Compares a damaged volume with the model, and its verdict. Calls are chosen from what was there
+/// before.
+fn compare_damaged(
+    run: &mut Run,
+    random: &mut Random,
+    desk: &mut Desk,
+    sound: &Volume,
+    subject: &Subject,
+) {
     subject.compare_volume(run);
+    subject.compare_verdict(run, random, desk);
     for asked in some_of_volume(random, sound, subject.image) {
         subject.compare_file(run, &asked);
     }
@@ -31,7 +40,7 @@ fn compare_damaged(run: &mut Run, random: &mut Random, sound: &Volume, subject: 
 /// One named damage of a volume, if it applies: what the paper says of it, and the model.
 fn compare_named(
     run: &mut Run,
-    lender: &mut Lender,
+    (lender, desk): (&mut Lender, &mut Desk),
     (damage, checksums): (&Damage, Checksums),
     sound: &Volume,
 ) {
@@ -54,7 +63,7 @@ fn compare_named(
         story: &story,
     };
     subject.expect(run, call_of(expected), expected.number());
-    compare_damaged(run, &mut random, sound, &subject);
+    compare_damaged(run, &mut random, desk, sound, &subject);
 }
 
 /// Every named damage on many volumes, with checksums put right and left.
@@ -63,10 +72,12 @@ fn named_damages() {
     Run::of(module_path!(), "named_damages", 8_000, |run| {
         let volumes = volumes_to_damage(run.seed(), 12);
         let mut lender = Lender::new();
+        let mut desk = Desk::default();
         for damage in damages() {
             for sound in &volumes {
                 for checksums in [Checksums::PutRight, Checksums::Left] {
-                    compare_named(run, &mut lender, (&damage, checksums), sound);
+                    let lenders = (&mut lender, &mut desk);
+                    compare_named(run, lenders, (&damage, checksums), sound);
                 }
             }
         }
@@ -74,6 +85,9 @@ fn named_damages() {
         run.expect_met("open_file", 6..=12, 200);
         run.expect_met(UNMET_TEST, 1..=12, 10);
         run.expect_met(BAD_LINK, 1..=16, 10);
+        run.expect_met("judge", [0, 2, 3, 4, 5, 16, 17, 18], 200);
+        run.expect_met("judge", [19], 20);
+        run.expect_met(OFFENCE, 1..=12, 10);
     });
 }
 
@@ -101,6 +115,7 @@ fn damages_together() {
         let small = &volumes[..40];
         let damages = damages();
         let mut lender = Lender::new();
+        let mut desk = Desk::default();
         run.random_cases(4_000, |run, random| {
             let sound = random.pick(small);
             let mut damaged = sound.clone();
@@ -109,10 +124,12 @@ fn damages_together() {
                 image: lender.lend(&damaged.image),
                 story: &[("volume", sound.describe()), ("damages", told)],
             };
-            compare_damaged(run, random, sound, &subject);
+            compare_damaged(run, random, &mut desk, sound, &subject);
         });
         run.expect_met("open_volume", [0, 2, 3, 4, 5], 50);
         run.expect_met("open_file", 7..=12, 20);
+        run.expect_met("judge", [16, 17], 50);
+        run.expect_met("judge", [18], 20);
     });
 }
 
@@ -121,6 +138,7 @@ fn damages_together() {
 fn random_damages() {
     Run::of(module_path!(), "random_damages", 12_000, |run| {
         let mut lender = Lender::new();
+        let mut desk = Desk::default();
         run.random_cases(12_000, |run, random| {
             let size = if random.once_in(200) {
                 Size::Medium
@@ -134,7 +152,7 @@ fn random_damages() {
                 image: lender.lend(&damaged.image),
                 story: &[("volume", sound.describe()), ("changes", changes)],
             };
-            compare_damaged(run, random, &sound, &subject);
+            compare_damaged(run, random, &mut desk, &sound, &subject);
         });
         run.expect_met("open_volume", [0, 2, 3, 4, 5], 100);
         run.expect_met("open_file", [0].into_iter().chain(2..=12), 100);
@@ -145,6 +163,9 @@ fn random_damages() {
         run.expect_met("next_record", [0, 15], 500);
         run.expect_met(UNMET_TEST, 1..=12, 5);
         run.expect_met(BAD_LINK, [13, 15, 16], 20);
+        run.expect_met("judge", [0, 2, 3, 4, 5, 16, 17, 18], 100);
+        run.expect_met("judge", [19, 21], 40);
+        run.expect_met(OFFENCE, (1..=12).chain(31..=35), 5);
     });
 }
 
@@ -154,6 +175,7 @@ fn random_damages_of_volume_v() {
     let test = "random_damages_of_volume_v";
     Run::of(module_path!(), test, 6_000, |run| {
         let mut lender = Lender::new();
+        let mut desk = Desk::default();
         let sound = volume_v();
         run.random_cases(6_000, |run, random| {
             let mut damaged = sound.clone();
@@ -162,10 +184,11 @@ fn random_damages_of_volume_v() {
                 image: lender.lend(&damaged.image),
                 story: &[("changes of V", changes)],
             };
-            compare_damaged(run, random, &sound, &subject);
+            compare_damaged(run, random, &mut desk, &sound, &subject);
         });
         run.expect_met("open_volume", [0, 2, 3, 4, 5], 100);
         run.expect_met("open_file", [7, 8, 9, 10, 11, 12], 20);
+        run.expect_met("judge", [0, 16, 17, 18, 19, 21], 20);
     });
 }
 
@@ -184,6 +207,7 @@ fn few_of(id: Id) -> Asked {
 fn random_images() {
     Run::of(module_path!(), "random_images", 6_000, |run| {
         let mut lender = Lender::new();
+        let mut desk = Desk::default();
         run.random_cases(6_000, |run, random| {
             let mut image = random_image(random);
             let mut told = format!("{} bytes", image.len());
@@ -195,6 +219,7 @@ fn random_images() {
                 story: &[("any bytes", told)],
             };
             subject.compare_volume(run);
+            subject.compare_verdict(run, random, &mut desk);
             for number in [0, 1, 2, 17] {
                 let id = Id::from_words([number, number, 0]);
                 subject.compare_file(run, &few_of(id));
@@ -202,6 +227,7 @@ fn random_images() {
         });
         run.expect_met("open_volume", [1, 2, 3, 4, 5], 50);
         run.expect_met("next_record", [15], 1_000);
+        run.expect_met("judge", [1, 2, 3, 4, 5], 50);
     });
 }
 
@@ -220,6 +246,7 @@ fn make_other_length(random: &mut Random, image: &mut Vec<u8>) -> String {
 fn other_lengths() {
     Run::of(module_path!(), "other_lengths", 2_000, |run| {
         let mut lender = Lender::new();
+        let mut desk = Desk::default();
         run.random_cases(2_000, |run, random| {
             let sound = random_volume(random, Size::Small);
             let mut image = sound.image.clone();
@@ -229,6 +256,7 @@ fn other_lengths() {
                 story: &[("volume", sound.describe()), ("made", told)],
             };
             subject.compare_volume(run);
+            subject.compare_verdict(run, random, &mut desk);
             let ids = ids(&sound);
             for id in [sound.file(sound.roles.plain).id(), *random.pick(&ids)] {
                 subject.compare_file(run, &few_of(id));
@@ -239,5 +267,7 @@ fn other_lengths() {
         run.expect_met("map", [1], 500);
         run.expect_met("block", [1], 500);
         run.expect_met("look_up", [1], 500);
+        run.expect_met("judge", [1], 500);
+        run.expect_met("judge", [0, 4, 5, 17, 21], 10);
     });
 }

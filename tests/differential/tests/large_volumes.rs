@@ -2,7 +2,7 @@
 //! home at the last position, and a chain of 256 full headers.
 
 use differential::asked::ids;
-use differential::images::{Asked, Call, Subject};
+use differential::images::{digest, Asked, Call, Subject};
 use differential::{Random, Run};
 use library::Lender;
 use model::{Id, Number};
@@ -85,15 +85,6 @@ fn plan_of_516_096() -> Plan {
         control: 131_070,
         storage_map: 131_071,
     }
-}
-
-/// A number that changes with the bytes of an image.
-fn digest(image: &[u8]) -> u64 {
-    let words = image.chunks_exact(8);
-    words.fold(1, |digest: u64, eight| {
-        let word = u64::from_le_bytes(eight.try_into().expect("eight bytes"));
-        digest.rotate_left(5) ^ word.wrapping_mul(0x9e37_79b9_7f4a_7c15)
-    })
 }
 
 /// VBNs around the ends of the chained file's pointers and headers.

@@ -1,7 +1,9 @@
-//! How images are lent: a write to one, or a read past its end, ends the run.
+//! How images and work areas are lent: a write to an image, or a read past the end of either, ends
+//! the run, and a write before a work area is seen.
 
 use library::Lender;
 use std::fs;
+use std::panic::catch_unwind;
 
 /// What may be done with the byte at an address: the four letters of the system's list of pages.
 fn access(address: usize) -> String {
@@ -34,6 +36,56 @@ fn a_lent_image_is_fenced_in() {
             assert_eq!(access(end - 1), "r--p", "last of {length} bytes");
             let page = first & !4_095;
             assert_eq!(access(page - 1), "---p", "before {length} bytes");
+        }
+    }
+}
+
+/// A work area can be read and written; the byte after it, and the page before its first, can be
+/// neither. What is written stays, and is copied back.
+#[test]
+fn a_lent_work_area_is_fenced_in() {
+    let mut lender = Lender::new();
+    for length in [100, 0, 1, 4_096, 65_535, 16, 8_191, 20_480] {
+        let before: Vec<u8> = (0..length).map(|at| (at % 251) as u8).collect();
+        let mut area = before.clone();
+        let told = lender.lend_area(&mut area, |lent| {
+            assert_eq!(lent, before);
+            let first = lent.as_ptr() as usize;
+            let end = first + length;
+            assert_eq!(access(end), "---p", "after {length} bytes");
+            if length > 0 {
+                assert_eq!(access(first), "rw-p", "first of {length} bytes");
+                assert_eq!(access(end - 1), "rw-p", "last of {length} bytes");
+                let page = first & !4_095;
+                assert_eq!(access(page - 1), "---p", "before {length} bytes");
+            }
+            lent.iter_mut().for_each(|byte| *byte ^= 0xff);
+            length
+        });
+        assert_eq!(told, length);
+        assert!(area
+            .iter()
+            .zip(before)
+            .all(|(&after, before)| after == !before));
+    }
+}
+
+/// A write just before a work area, and one at the start of its first page.
+#[test]
+fn a_write_before_a_work_area_is_seen() {
+    for length in [1, 100, 4_095, 5_000] {
+        for far in [false, true] {
+            let seen = catch_unwind(|| {
+                let mut area = vec![7; length];
+                Lender::new().lend_area(&mut area, |lent| {
+                    let first = lent.as_mut_ptr() as usize;
+                    let place = if far { first & !4_095 } else { first - 1 };
+                    // SAFETY: the byte is in the lender's own pages, which may be written; it is
+                    // what a call that writes beside the area would do.
+                    unsafe { (place as *mut u8).write_volatile(0) };
+                });
+            });
+            assert!(seen.is_err(), "{length} bytes, far {far}");
         }
     }
 }

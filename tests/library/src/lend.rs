@@ -1,5 +1,6 @@
 //! Lends an image to the library so that a wrong access ends the run at once: the bytes can be read
-//! and not written, and those beside them can not even be read.
+//! and not written, and those beside them can not even be read. A work area is lent in the same way,
+//! but that it can be written.
 
 use std::ffi::c_void;
 use std::{ptr, slice};
@@ -28,12 +29,17 @@ extern "C" {
     fn munmap(place: *mut c_void, length: usize) -> i32;
 }
 
+/// What stands in the first page before a work area, where the page has room.
+const BESIDE: u8 = 0xc3;
+
 /// Pages to lend images in, with a page before and a page after them that nobody may touch.
 pub struct Lender {
     /// Where the room starts, after the page before it.
     pages: *mut u8,
     /// The bytes of the pages between the two.
     room: usize,
+    /// Where the pages start that may be touched now, up to the end of the room.
+    touchable: usize,
 }
 
 impl Lender {
@@ -42,28 +48,69 @@ impl Lender {
         Lender {
             pages: ptr::null_mut(),
             room: 0,
+            touchable: 0,
         }
     }
 
     /// Lends an image: a copy of the bytes, which ends where the page that nobody may touch begins.
     /// The page before the image's first one cannot be touched either.
     pub fn lend(&mut self, image: &[u8]) -> &[u8] {
-        if self.pages.is_null() || image.len() > self.room {
-            self.release();
-            self.acquire(image.len().next_multiple_of(PAGE).max(PAGE));
-        }
-        let start = self.room - image.len();
-        let before = start - start % PAGE;
-        self.allow(0, self.room, READ_AND_WRITE);
-        // SAFETY: the room is the lender's own, may be written to, and is at least as long as the
-        // image; nobody else refers to it, since the last loan ended with the borrow of `self`.
-        let place = unsafe { self.pages.add(start) };
-        unsafe { ptr::copy_nonoverlapping(image.as_ptr(), place, image.len()) };
-        self.allow(0, before, NOTHING);
-        self.allow(before, self.room - before, READ);
+        let start = self.put(image, READ);
         // SAFETY: the bytes were just written, may be read, and stay as they are until the borrow
         // of `self` ends.
-        unsafe { slice::from_raw_parts(place, image.len()) }
+        unsafe { slice::from_raw_parts(self.pages.add(start), image.len()) }
+    }
+
+    /// Lends a work area to a call: a copy of the bytes, which may be written and which ends where
+    /// the page that nobody may touch begins. What the call leaves in it is copied back. The bytes
+    /// before the area, in its first page, are seen to be unchanged.
+    pub fn lend_area<Answer>(
+        &mut self,
+        area: &mut [u8],
+        call: impl FnOnce(&mut [u8]) -> Answer,
+    ) -> Answer {
+        let start = self.put(area, READ_AND_WRITE);
+        let before = start - start % PAGE;
+        // SAFETY: the bytes were just written, may be read and written, and nobody else refers to
+        // them while the call has them.
+        let lent = unsafe { slice::from_raw_parts_mut(self.pages.add(start), area.len()) };
+        let answer = call(lent);
+        // SAFETY: these bytes may be read, and the loan has ended.
+        let (beside, left) = unsafe {
+            let beside = slice::from_raw_parts(self.pages.add(before), start - before);
+            let left = slice::from_raw_parts(self.pages.add(start), area.len());
+            (beside, left)
+        };
+        let is_unchanged = beside.iter().all(|&byte| byte == BESIDE);
+        assert!(is_unchanged, "bytes before the work area were written");
+        area.copy_from_slice(left);
+        answer
+    }
+
+    /// Copies bytes to the end of the room, sets what may be done with their pages, and answers
+    /// where they start in it. The pages before them cannot be touched.
+    fn put(&mut self, bytes: &[u8], access: i32) -> usize {
+        if self.pages.is_null() || bytes.len() > self.room {
+            self.release();
+            self.acquire(bytes.len().next_multiple_of(PAGE).max(PAGE));
+        }
+        let start = self.room - bytes.len();
+        let before = start - start % PAGE;
+        if self.touchable < before {
+            self.allow(self.touchable, before - self.touchable, NOTHING);
+        }
+        self.touchable = before;
+        self.allow(before, self.room - before, READ_AND_WRITE);
+        // SAFETY: the room is the lender's own, may be written to, and is at least as long as the
+        // bytes; nobody else refers to it, since the last loan ended with the borrow of `self`.
+        unsafe {
+            ptr::write_bytes(self.pages.add(before), BESIDE, start - before);
+            ptr::copy_nonoverlapping(bytes.as_ptr(), self.pages.add(start), bytes.len());
+        }
+        if access != READ_AND_WRITE {
+            self.allow(before, self.room - before, access);
+        }
+        start
     }
 
     /// Sets what may be done with some of the pages.
@@ -85,6 +132,7 @@ impl Lender {
         // SAFETY: the first of the pages just got is followed by others.
         self.pages = unsafe { all.cast::<u8>().add(PAGE) };
         self.room = room;
+        self.touchable = room;
     }
 
     /// Gives the pages back.
@@ -98,6 +146,7 @@ impl Lender {
         assert!(refused == 0, "pages are given back");
         self.pages = ptr::null_mut();
         self.room = 0;
+        self.touchable = 0;
     }
 }
 

@@ -3,7 +3,8 @@
 //! Each call answers the twelve words that the library wrote: number, place, ten value words. A
 //! word that the library did not write is seen as [`UNWRITTEN`].
 //!
-//! [`Lender`] lends an image so that a write to it, or a read beside it, ends the run.
+//! [`Lender`] lends an image so that a write to it, or a read beside it, ends the run, and a work
+//! area so that a write or a read beside it does.
 
 mod lend;
 
@@ -75,6 +76,16 @@ mod exported {
             sequence: u16,
             volume: u16,
             place: u32,
+            answer: *mut Words,
+        );
+
+        pub fn ods1_judge(
+            image: *const u8,
+            image_len: usize,
+            blocks: *mut u8,
+            blocks_len: usize,
+            headers: *mut u8,
+            headers_len: usize,
             answer: *mut Words,
         );
 
@@ -240,6 +251,25 @@ pub fn next_record(image: &[u8], id: [u16; 3], place: u32) -> Words {
                 sequence,
                 volume,
                 place,
+                answer,
+            )
+        }
+    })
+}
+
+/// `ods1_judge`: the verdict's four counts (blocks, claimed, free, headers), with work areas for the
+/// marks of blocks and of headers.
+pub fn judge(image: &[u8], blocks: &mut [u8], headers: &mut [u8]) -> Words {
+    answer_of(|answer| {
+        // SAFETY: as above; each work area is a slice that nothing else refers to during the call.
+        unsafe {
+            exported::ods1_judge(
+                image.as_ptr(),
+                image.len(),
+                blocks.as_mut_ptr(),
+                blocks.len(),
+                headers.as_mut_ptr(),
+                headers.len(),
                 answer,
             )
         }

@@ -12,7 +12,9 @@
 //! * [`header`]: "The header", its fields, when it is whole, and its pointers;
 //! * [`volume`]: "The volume", opening one, slots, numbers in use, and chains of headers;
 //! * [`file`]: "The header" and "Answer numbers", opening a file, its blocks;
-//! * [`directory`]: "Names and directories", look-up and the walker's step.
+//! * [`directory`]: "Names and directories", look-up and the walker's step;
+//! * [`verdict`]: "The verdict", its refusals with their places, its counts and its marks;
+//! * [`sound`]: "Demand 3, its words and its list", what the verdict is to accept, apart from it.
 
 #![forbid(unsafe_code)]
 
@@ -23,6 +25,8 @@ pub mod header;
 pub mod image;
 pub mod names;
 pub mod radix50;
+pub mod sound;
+pub mod verdict;
 pub mod volume;
 
 #[cfg(test)]

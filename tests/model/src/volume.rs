@@ -8,7 +8,7 @@ use crate::image::{
 
 /// The bits of a block of a map. Paper 01, "The volume": "m = H.IBSZ = H.FMAX/4096 rounded up" and
 /// "q = N/4096 rounded up".
-const MAP_BITS: u64 = 4096;
+pub const MAP_BITS: u64 = 4096;
 
 /// The headers that follow the index map. Paper 01, "The volume": "H.IBLB + m + 16 ≤ N".
 const FIRST_HEADERS: u64 = 16;
@@ -174,9 +174,24 @@ impl<'a> Volume<'a> {
         self.image
     }
 
+    /// The home's LBN. Paper 01, "The volume": "the home is the first that has ..".
+    pub fn home(&self) -> Lbn {
+        self.home.lbn
+    }
+
     /// Paper 01, "The volume": "H.FMAX 6".
     pub fn h_fmax(&self) -> u64 {
         self.home.h_fmax
+    }
+
+    /// The blocks of bits of the storage map file. Paper 01, "The volume": "Byte 3 of its first
+    /// block is q; .. Then q blocks of bits".
+    pub fn storage_map(&self) -> Vec<&'a [u8]> {
+        let header = self.slot(FileNumber(2));
+        let header = header.expect("the index file maps the first 16 slots");
+        let lbns = header.pointers();
+        let lbns = lbns.iter().flat_map(Pointer::lbns).skip(1);
+        lbns.map(|lbn| self.image.block(lbn)).collect()
     }
 
     /// The header in a number's slot, if it has one. Paper 01, "The volume": "The slot of file n is
@@ -416,6 +431,13 @@ mod tests {
         let all = changed(&[no_storage, no_index, no_geometry, no_home]);
         assert_eq!(open_volume(&all).number, Number::Home);
         assert_eq!(open_volume(&all[..51_199]).number, Number::Size);
+    }
+
+    #[test]
+    fn blocks_of_bits_of_the_storage_map() {
+        let volume = open(VOLUME_V).expect("Volume V opens");
+        assert_eq!(volume.home(), Lbn(1));
+        assert_eq!(volume.storage_map(), [&VOLUME_V[20 * 512..21 * 512]]);
     }
 
     #[test]

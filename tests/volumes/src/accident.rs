@@ -1,9 +1,9 @@
 //! Accidents: random changes of a volume, mostly where the rules look, and images of any bytes.
 
 use crate::block::{put_long, put_word, seal_header, seal_home, BLOCK_BYTES};
-use crate::header::{at, in_map, Pointer};
+use crate::header::{at, in_map, Areas, Pointer, MOST_POINTERS};
 use crate::random::Random;
-use crate::volume::{in_home, Volume, FORMAT, RECORD_BYTES};
+use crate::volume::{in_home, Volume, FORMAT, MAP_BITS, RECORD_BYTES};
 
 /// Makes one to four changes of a volume at random, and answers them in words.
 pub fn random_changes(random: &mut Random, volume: &mut Volume) -> String {
@@ -24,6 +24,125 @@ fn random_change(random: &mut Random, volume: &mut Volume) -> String {
         9 => whole_block(random, volume),
         _ => some_byte(random, volume),
     }
+}
+
+/// Makes one to three changes at random where the rules of the verdict look, and answers them in
+/// words. The volume mostly opens still, checksums are right, and half of the time the storage map
+/// is put right again.
+pub fn random_flaws(random: &mut Random, volume: &mut Volume) -> String {
+    let count = 1 + random.below(3);
+    let mut told: Vec<String> = (0..count).map(|_| random_flaw(random, volume)).collect();
+    if random.once_in(2) {
+        volume.put_storage_map();
+        told.push("storage map put right".to_string());
+    }
+    if random.once_in(8) {
+        told.push(random_change(random, volume));
+    }
+    told.join("; ")
+}
+
+/// Makes one change at random where the rules of the verdict look.
+fn random_flaw(random: &mut Random, volume: &mut Volume) -> String {
+    match random.below(10) {
+        0 => in_use_bit(random, volume),
+        1 | 2 => link(random, volume),
+        3 => sequence_or_segment(random, volume),
+        4 | 5 => more_blocks(random, volume),
+        6 | 7 => fewer_blocks(random, volume),
+        _ => storage_bit(random, volume),
+    }
+}
+
+/// Links a header to another, to none, or to any number.
+fn link(random: &mut Random, volume: &mut Volume) -> String {
+    let number = random_header(random, volume);
+    let other = random_header(random, volume);
+    let sequence = volume.header(other).sequence;
+    let link = match random.below(6) {
+        0 => (0, 0),
+        1 => (other, sequence ^ 1),
+        2 => (random.word(), random.word()),
+        3 => (volume.unused_number().unwrap_or(other), sequence),
+        _ => (other, sequence),
+    };
+    // Header 1 and 2 have no link on a volume that opens.
+    if number < 3 {
+        return format!("header {number} stays");
+    }
+    volume.edit_header(number, |header| header.link = link);
+    format!("header {number} links to {link:?}")
+}
+
+/// Changes the sequence or the segment of a header.
+fn sequence_or_segment(random: &mut Random, volume: &mut Volume) -> String {
+    let number = random_header(random, volume);
+    if number < 3 {
+        return format!("header {number} stays");
+    }
+    let byte = edge_byte(random, volume.header(number).segment);
+    if random.once_in(2) {
+        volume.edit_header(number, |header| header.segment = byte);
+        format!("header {number}: segment {byte}")
+    } else {
+        volume.edit_header(number, |header| header.sequence ^= u16::from(byte));
+        format!("header {number}: sequence changed by {byte}")
+    }
+}
+
+/// Puts a pointer more into a header, below N.
+fn more_blocks(random: &mut Random, volume: &mut Volume) -> String {
+    let number = random_header(random, volume);
+    let blocks = volume.plan.blocks;
+    let count = *random.pick(&[1, 1, 1, 2, 3, 40, 256]);
+    let count = count.min(blocks);
+    let lbn = match random.below(4) {
+        0 => blocks - count,
+        1 => *random.pick(&[0, 1, volume.plan.home, volume.plan.control]),
+        _ => random.below(u64::from(blocks - count + 1)) as u32,
+    };
+    let lbn = lbn.min(blocks - count);
+    if number == 2 || volume.header(number).pointers.len() == MOST_POINTERS {
+        return format!("header {number} stays");
+    }
+    let pointer = Pointer { lbn, blocks: count };
+    volume.edit_header(number, |header| {
+        header.pointers.push(pointer);
+        header.areas = Areas::LARGEST;
+    });
+    format!("header {number}: {pointer:?} more")
+}
+
+/// Takes a pointer out of a header, or of file 3, as often; files 1 and 2 keep theirs.
+fn fewer_blocks(random: &mut Random, volume: &mut Volume) -> String {
+    let number = if random.once_in(2) {
+        random.pick(&volume.file(3).headers).number
+    } else {
+        random_header(random, volume)
+    };
+    let pointers = volume.header(number).pointers.len();
+    if number < 3 || pointers == 0 {
+        return format!("header {number} stays");
+    }
+    let place = random.between(0, pointers - 1);
+    volume.edit_header(number, |header| {
+        header.pointers.remove(place);
+    });
+    format!("header {number}: pointer {place} less")
+}
+
+/// Turns a bit of the storage map over.
+fn storage_bit(random: &mut Random, volume: &mut Volume) -> String {
+    let end = MAP_BITS * volume.plan.storage_map_blocks();
+    let blocks = volume.plan.blocks;
+    let bit = match random.below(5) {
+        0 => random.below(u64::from(end)) as u32,
+        1 => (blocks + random.below(10) as u32).min(end - 1),
+        2 => blocks - 1 - random.below(10) as u32,
+        _ => random.below(u64::from(blocks)) as u32,
+    };
+    volume.storage_map_mut()[(bit / 8) as usize] ^= 1 << (bit % 8);
+    format!("bit {bit} of the storage map turned over")
 }
 
 /// One of the headers of files, with its number.
@@ -324,7 +443,7 @@ pub fn random_length(random: &mut Random, image: &mut Vec<u8>) -> String {
 mod tests {
     use super::*;
     use crate::shapes::{random_volume, Size};
-    use model::{file, volume, Number};
+    use model::{file, sound, verdict, volume, Number};
 
     /// How often each number is met, of 0 to 12.
     fn expect_met(met: &[u64; 29], numbers: std::ops::RangeInclusive<usize>, least: u64) {
@@ -350,6 +469,31 @@ mod tests {
         expect_met(&met, 0..=0, 1_000);
         expect_met(&met, 2..=5, 100);
         expect_met(&met, 7..=12, 20);
+    }
+
+    #[test]
+    fn random_flaws_meet_every_refusal_of_the_verdict() {
+        let mut met = [0; 29];
+        let mut headers = vec![0; 65_535];
+        for seed in 0..3_000 {
+            let mut random = Random::new(seed);
+            let size = if random.once_in(3) {
+                Size::Blocks(600)
+            } else {
+                Size::Small
+            };
+            let mut volume = random_volume(&mut random, size);
+            let told = random_flaws(&mut random, &mut volume);
+            let mut blocks = vec![0; volume.plan.blocks as usize];
+            let answer = verdict::judge(&volume.image, &mut blocks, &mut headers);
+            met[answer.number.number() as usize] += 1;
+            let sound = sound::opens_and_is_sound(&volume.image);
+            assert_eq!(answer.number == Number::Done, sound, "{seed}: {told}");
+        }
+        expect_met(&met, 0..=0, 200);
+        expect_met(&met, 17..=19, 200);
+        expect_met(&met, 20..=20, 15);
+        expect_met(&met, 21..=21, 200);
     }
 
     #[test]

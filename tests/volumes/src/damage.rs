@@ -2,7 +2,7 @@
 //! it that breaks none. Each tells what a call then answers, by the paper and not by the model.
 
 mod chain;
-mod header;
+pub(crate) mod header;
 mod home;
 mod known;
 mod number;
@@ -243,7 +243,7 @@ mod tests {
 
     #[test]
     fn every_damage_is_answered_as_the_paper_says() {
-        let volumes = volumes_to_damage(5, 20);
+        let volumes = volumes_to_damage(6, 20);
         for damage in damages() {
             let left = applied(&damage, &volumes, Checksums::Left);
             let put_right = applied(&damage, &volumes, Checksums::PutRight);

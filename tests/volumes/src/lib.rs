@@ -11,7 +11,8 @@
 //! * [`space`]: the blocks of a volume that are taken and free;
 //! * [`directory`]: records of every kind, and names;
 //! * [`shapes`]: sound volumes of every shape, at random;
-//! * [`damage`]: each way that a rule can be broken, with what is then answered;
+//! * [`damage`]: each way that a rule of opening can be broken, with what is then answered;
+//! * [`flaw`]: each way that a rule of the verdict can be broken, with its place;
 //! * [`accident`]: random changes of a volume, and images of any bytes.
 
 #![forbid(unsafe_code)]
@@ -20,6 +21,7 @@ pub mod accident;
 pub mod block;
 pub mod damage;
 pub mod directory;
+pub mod flaw;
 pub mod header;
 pub mod random;
 pub mod shapes;

@@ -189,12 +189,25 @@ fn storage_header(random: &mut Random, plan: &Plan) -> Header {
     known_header(random, 2, pointers)
 }
 
-/// The header of file 3: the home positions passed over, and a block or two.
-fn bad_block_header(random: &mut Random, space: &mut Space, plan: &Plan) -> Header {
+/// File 3: the home positions passed over, and a block or two. Some of its headers may be extension
+/// headers.
+fn bad_block_file(
+    random: &mut Random,
+    space: &mut Space,
+    numbers: &mut Vec<u16>,
+    plan: &Plan,
+) -> File {
     let mut lbns = passed_over(plan.blocks, plan.home);
     let more = random.long_between(0, 2);
     lbns.extend(space.take_blocks(random, more, 1));
-    known_header(random, 3, pointers_of(&lbns))
+    // Eight numbers are left to the files that every volume has.
+    let most = (numbers.len() - 8).min(3);
+    let more = if random.once_in(3) {
+        random.between(0, most)
+    } else {
+        0
+    };
+    chain_of(random, numbers, (3, 3), pointers_of(&lbns), 1 + more)
 }
 
 /// What a file that is to be made needs.
@@ -252,8 +265,18 @@ fn make_file(
     if pointers.len() < count {
         cut(random, &mut pointers, count);
     }
-    let (number, sequence) = first;
-    let mut names = vec![(number, sequence)];
+    chain_of(random, numbers, first, pointers, count)
+}
+
+/// A file of known number and sequence, with its pointers shared out to so many headers.
+fn chain_of(
+    random: &mut Random,
+    numbers: &mut Vec<u16>,
+    first: (u16, u16),
+    pointers: Vec<Pointer>,
+    count: usize,
+) -> File {
+    let mut names = vec![first];
     while names.len() < count {
         let number = numbers.pop().expect("a number for each header");
         names.push((number, random_sequence(random)));
@@ -307,7 +330,6 @@ pub fn random_volume(random: &mut Random, size: Size) -> Volume {
     let headers = [
         index_header(random, &volume.plan),
         storage_header(random, &volume.plan),
-        bad_block_header(random, &mut space, &volume.plan),
     ];
     for header in headers {
         volume.add(File {
@@ -315,6 +337,12 @@ pub fn random_volume(random: &mut Random, size: Size) -> Volume {
         });
     }
     let mut numbers = free_numbers(random, &volume);
+    volume.add(bad_block_file(
+        random,
+        &mut space,
+        &mut numbers,
+        &volume.plan,
+    ));
     add_files(random, &mut space, &mut numbers, &mut volume);
     leave_old_headers(random, &numbers, &mut volume);
     put_directories(random, &mut volume);
@@ -416,9 +444,28 @@ fn leave_old_headers(random: &mut Random, numbers: &[u16], volume: &mut Volume) 
 mod tests {
     use super::*;
     use crate::volume::MAP_BITS;
-    use model::file;
-    use model::volume;
+    use model::{file, sound, verdict, volume};
     use model::{Answer, Number, Vbn};
+
+    /// Sees that a volume is accepted, with the counts that were given to it.
+    fn expect_accepted(volume: &Volume) {
+        let image = &volume.image;
+        let blocks = u64::from(volume.plan.blocks);
+        let claimed: u64 = volume.files.iter().map(|it| u64::from(it.blocks())).sum();
+        let headers = volume.headers().count() as u64;
+        let mut marks = vec![7; volume.plan.blocks as usize];
+        let mut links = vec![7; usize::from(volume.plan.h_fmax)];
+        let answer = verdict::judge(image, &mut marks, &mut links);
+        let counts = [blocks, claimed, blocks - claimed, headers];
+        assert_eq!(answer, Answer::done(&counts), "{}", volume.describe());
+        assert!(sound::opens_and_is_sound(image), "{}", volume.describe());
+        let covered = volume.covered().into_iter().map(u8::from);
+        assert!(marks.into_iter().eq(covered), "{}", volume.describe());
+        for (n, mark) in (1..=volume.plan.h_fmax).zip(links) {
+            let linked = volume.headers().filter(|header| header.link.0 == n);
+            assert_eq!(usize::from(mark), linked.count(), "{n}");
+        }
+    }
 
     /// Sees that a volume opens, and each of its files, with the blocks that were given to it.
     fn expect_as_built(volume: &Volume) {
@@ -426,6 +473,7 @@ mod tests {
         let answer = volume::open_volume(image);
         let home = u64::from(volume.plan.home);
         assert_eq!(answer, Answer::done(&[home]), "{}", volume.describe());
+        expect_accepted(volume);
         for built in &volume.files {
             let opened = file::open(image, built.id());
             if built.is_locked() {
@@ -509,13 +557,30 @@ mod tests {
         for count in [1, 2] {
             expect_some(&volumes, "storage", |it| pointers(it, 2) == count);
         }
+        for headers in [1, 2, 4] {
+            expect_some(&volumes, "bad block headers", |it| {
+                it.file(3).headers.len() == headers
+            });
+        }
+        expect_some(&volumes, "a home in an extension header", |it| {
+            let first = it.file(3).headers[0].clone();
+            let covers = |lbn| {
+                first
+                    .pointers
+                    .iter()
+                    .any(|it| it.lbns().any(|it| it == lbn))
+            };
+            it.plan.home > 256 && it.file(3).headers.len() > 1 && !covers(256)
+        });
+        for (name, modulus) in [("N mod 8", 8), ("N mod 4096", MAP_BITS)] {
+            expect_some(&volumes, name, |it| it.plan.blocks % modulus == 0);
+            expect_some(&volumes, name, |it| it.plan.blocks % modulus != 0);
+        }
         let chain = |it: &Volume| it.file(it.roles.chained).headers.len();
         for least in [3, 10, 100, 256] {
             expect_some(&volumes, "a chain", |it| chain(it) >= least);
         }
-        let any_header = |it: &Volume, test: &dyn Fn(&Header) -> bool| {
-            it.files.iter().flat_map(|file| &file.headers).any(test)
-        };
+        let any_header = |it: &Volume, test: &dyn Fn(&Header) -> bool| it.headers().any(test);
         expect_some(&volumes, "a full map", |it| {
             any_header(it, &|header| header.pointers.len() == MOST_POINTERS)
         });

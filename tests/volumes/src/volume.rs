@@ -229,9 +229,8 @@ impl Volume {
 
     /// The lowest number from 6 on that has a slot and that no header of a file has.
     pub fn unused_number(&self) -> Option<u16> {
-        let headers = || self.files.iter().flat_map(|file| &file.headers);
         let last = self.last_slot().min(u32::from(self.plan.h_fmax)) as u16;
-        (6..=last).find(|&number| headers().all(|header| header.number != number))
+        (6..=last).find(|&number| self.headers().all(|header| header.number != number))
     }
 
     /// Puts a number's bit of the index map.
@@ -256,6 +255,27 @@ impl Volume {
         self.files.push(file);
     }
 
+    /// All headers of files.
+    pub fn headers(&self) -> impl Iterator<Item = &Header> {
+        self.files.iter().flat_map(|file| &file.headers)
+    }
+
+    /// The header of a number that a file has.
+    pub fn header(&self, number: u16) -> &Header {
+        let header = self.headers().find(|header| header.number == number);
+        header.expect("a header of a file")
+    }
+
+    /// Changes the header of a number that a file has, and puts it into its slot.
+    pub fn edit_header(&mut self, number: u16, edit: impl FnOnce(&mut Header)) {
+        let mut headers = self.files.iter_mut().flat_map(|file| &mut file.headers);
+        let header = headers.find(|header| header.number == number);
+        let header = header.expect("a header of a file");
+        edit(header);
+        let header = header.clone();
+        self.put_header(&header);
+    }
+
     /// The file whose first header has this number.
     pub fn file(&self, number: u16) -> &File {
         let mut files = self.files.iter();
@@ -277,17 +297,28 @@ impl Volume {
         });
     }
 
-    /// Puts the storage map: set means free, and bits from N on are clear.
-    pub fn put_storage_map(&mut self) {
+    /// Which blocks a pointer of a file covers.
+    pub fn covered(&self) -> Vec<bool> {
         let mut covered = vec![false; self.plan.blocks as usize];
         for file in &self.files {
             for lbn in file.pointers().flat_map(Pointer::lbns) {
                 covered[lbn as usize] = true;
             }
         }
+        covered
+    }
+
+    /// The bits of the storage map, to change.
+    pub fn storage_map_mut(&mut self) -> &mut [u8] {
         let bits = self.plan.storage_map_blocks() as usize;
         let start = self.plan.storage_map as usize * BLOCK_BYTES;
-        let map = &mut self.image[start..start + bits * BLOCK_BYTES];
+        &mut self.image[start..start + bits * BLOCK_BYTES]
+    }
+
+    /// Puts the storage map: set means free, and bits from N on are clear.
+    pub fn put_storage_map(&mut self) {
+        let covered = self.covered();
+        let map = self.storage_map_mut();
         map.fill(0);
         for (bit, covered) in covered.into_iter().enumerate() {
             if !covered {

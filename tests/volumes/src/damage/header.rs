@@ -14,6 +14,10 @@ pub enum Target {
     Index,
     /// Header 2.
     Storage,
+    /// Header 3.
+    BadBlock,
+    /// Header 4.
+    Directory,
     /// The only header of the plain file.
     Plain,
     /// The first header of the chained file.
@@ -25,7 +29,8 @@ pub enum Target {
 }
 
 impl Target {
-    pub const ALL: [Target; 6] = [
+    /// The headers that opening a volume or a file reads.
+    pub const OPENED: [Target; 6] = [
         Target::Index,
         Target::Storage,
         Target::Plain,
@@ -39,6 +44,8 @@ impl Target {
         match self {
             Target::Index => "header 1",
             Target::Storage => "header 2",
+            Target::BadBlock => "header 3",
+            Target::Directory => "header 4",
             Target::Plain => "only header",
             Target::First => "first header",
             Target::Second => "second header",
@@ -52,6 +59,8 @@ impl Target {
         match self {
             Target::Index => (1, 0),
             Target::Storage => (2, 0),
+            Target::BadBlock => (3, 0),
+            Target::Directory => (4, 0),
             Target::Plain => (volume.roles.plain, 0),
             Target::First => (chained, 0),
             Target::Second => (chained, 1),
@@ -59,12 +68,16 @@ impl Target {
         }
     }
 
+    /// The header's number.
+    pub fn number(self, volume: &Volume) -> u16 {
+        let (file, place) = self.place(volume);
+        volume.file(file).headers[place].number
+    }
+
     /// The header's bytes and what is known of them.
     pub fn edit(self, volume: &mut Volume) -> HeaderEdit<'_> {
-        let (file, place) = self.place(volume);
-        let header = &volume.file(file).headers[place];
-        let number = header.number;
-        let map = header.map_area();
+        let number = self.number(volume);
+        let map = volume.header(number).map_area();
         let blocks = volume.plan.blocks;
         let lbn = volume.slot_of(number);
         HeaderEdit {
@@ -158,7 +171,7 @@ impl HeaderEdit<'_> {
 
 /// A change of a header.
 #[derive(Clone, Copy)]
-enum Change {
+pub enum Change {
     /// It always applies.
     Put(fn(&mut HeaderEdit)),
     /// It applies to some headers, and answers whether it did.
@@ -169,7 +182,7 @@ use Change::{Put, Try};
 
 impl Change {
     /// Changes a header, and answers whether it did.
-    fn apply(self, edit: &mut HeaderEdit) -> bool {
+    pub fn apply(self, edit: &mut HeaderEdit) -> bool {
         match self {
             Put(change) => {
                 change(edit);
@@ -181,7 +194,7 @@ impl Change {
 }
 
 /// Changes that leave the header not whole, by the test that they break.
-const NOT_WHOLE: &[(&str, Change)] = &[
+pub const NOT_WHOLE: &[(&str, Change)] = &[
     ("2: H.FLEV 0", Put(|it| put_word(it.block, at::H_FLEV, 0))),
     (
         "2: H.FLEV 256",
@@ -310,7 +323,7 @@ const NOT_WHOLE: &[(&str, Change)] = &[
 ];
 
 /// Changes that leave the header whole: the values next to those that do not.
-const WHOLE: &[(&str, Change)] = &[
+pub const WHOLE: &[(&str, Change)] = &[
     ("H.IDOF 23", Put(|it| it.block[at::H_IDOF] = 23)),
     (
         "H.IDOF as H.MPOF",
@@ -379,7 +392,7 @@ const POINTERS: &[(&str, Change)] = &[
 ];
 
 /// Changes of the checksum.
-const CHECKSUMS: &[(&str, Change)] = &[
+pub const CHECKSUMS: &[(&str, Change)] = &[
     ("1: one more", Put(|it| add_to_word(it.block, CHECKSUM, 1))),
     (
         "1: one less",
@@ -421,7 +434,7 @@ fn of_target(
 /// All damages of headers.
 pub fn damages() -> Vec<Damage> {
     let mut all = Vec::new();
-    for target in Target::ALL {
+    for target in Target::OPENED {
         for (name, change) in NOT_WHOLE {
             all.push(of_target(target, name, *change, Target::not_whole));
         }

@@ -1,0 +1,143 @@
+//! Sound volumes with many headers in use, for the verdict.
+//!
+//! An index file of one header maps at most 113 pointers of 256 blocks, 28,928 blocks. Of these two
+//! are the boot block and the home and 16 are the index map of H.FMAX 65,535, so that 28,910 numbers
+//! have slots: more headers than that cannot be in use until the index file may have more headers
+//! (02, 9/14).
+
+use volumes::header::{pointers_of, Areas, Header, Pointer};
+use volumes::shapes::{home_positions, MOST_BLOCKS, RL02_BLOCKS};
+use volumes::volume::{File, Plan, Volume, FIRST_HEADERS, MAP_BITS};
+
+/// What the files from number 6 on are to be.
+#[derive(Clone, Copy)]
+struct Files {
+    /// The headers of each file.
+    headers: u16,
+    /// The pointers of each header, and the blocks of each pointer; a block stays free after each.
+    pointers: u32,
+    blocks: u32,
+}
+
+/// Files of one header each, with a pointer of two blocks.
+const SMALL_FILES: Files = Files {
+    headers: 1,
+    pointers: 1,
+    blocks: 2,
+};
+
+/// A plan whose index file, from `start` on, has slots for the numbers up to `slots`; the storage
+/// map file follows it.
+fn plan(blocks: u32, home: u32, h_fmax: u16, start: u32, slots: u32) -> Plan {
+    let m = u32::from(h_fmax).div_ceil(MAP_BITS);
+    let end = start + m + slots;
+    Plan {
+        blocks,
+        home,
+        h_vlev: 257,
+        h_fmax,
+        h_iblb: start,
+        more_slots: (start + m + FIRST_HEADERS..end).collect(),
+        control: end,
+        storage_map: end + 1,
+    }
+}
+
+/// A volume with every number that has a slot in use.
+fn full_volume(plan: Plan, files: Files) -> Volume {
+    let index = pointers_of(&plan.index_lbns());
+    let storage = pointers_of(&plan.storage_lbns());
+    let mut passed_over = home_positions(plan.blocks);
+    passed_over.retain(|&position| position < plan.home);
+    let mut next = plan.storage_map + plan.storage_map_blocks();
+    let image = vec![0; 512 * plan.blocks as usize];
+    let mut volume = Volume::new(plan, image);
+    for header in [
+        Header {
+            areas: Areas::LARGEST,
+            ..Header::new(1, 1, index)
+        },
+        Header::new(2, 2, storage),
+        Header::new(3, 3, pointers_of(&passed_over)),
+        Header::new(4, 4, vec![]),
+        Header::new(5, 5, vec![]),
+    ] {
+        volume.add(File {
+            headers: vec![header],
+        });
+    }
+    let last = volume.last_slot().min(volume.plan.h_fmax.into()) as u16;
+    for first in (6..=last).step_by(files.headers.into()) {
+        let numbers = first..=last.min(first + files.headers - 1);
+        let headers = (0..).zip(numbers.clone()).map(|(segment, number)| {
+            let pointers = (0..files.pointers).map(|_| {
+                let lbn = next;
+                next += files.blocks + 1;
+                Pointer {
+                    lbn,
+                    blocks: files.blocks,
+                }
+            });
+            Header {
+                segment,
+                link: if number == *numbers.end() {
+                    (0, 0)
+                } else {
+                    (number + 1, 7)
+                },
+                ..Header::new(number, 7, pointers.collect())
+            }
+        });
+        let headers = headers.collect();
+        volume.add(File { headers });
+    }
+    assert!(next <= volume.plan.blocks, "the blocks are enough");
+    volume.put_storage_map();
+    volume
+}
+
+/// What the files of the RL02 disks have: two pointers of three blocks in each header.
+const RL02_FILES: Files = Files {
+    headers: 1,
+    pointers: 2,
+    blocks: 3,
+};
+
+/// An RL02 disk with 2,000 files of one header each.
+pub fn rl02_of_files() -> Volume {
+    full_volume(plan(RL02_BLOCKS, 1, 2_005, 2, 2_005), RL02_FILES)
+}
+
+/// An RL02 disk with 400 files of five headers each.
+pub fn rl02_of_chains() -> Volume {
+    let files = Files {
+        headers: 5,
+        ..RL02_FILES
+    };
+    full_volume(plan(RL02_BLOCKS, 1, 2_005, 2, 2_005), files)
+}
+
+/// An RL02 disk with 2,000 files, whose home is at position 512.
+pub fn rl02_with_a_later_home() -> Volume {
+    full_volume(plan(RL02_BLOCKS, 512, 2_005, 600, 2_005), RL02_FILES)
+}
+
+/// The largest volume, with as many headers as can be.
+pub fn largest() -> Volume {
+    let files = Files {
+        headers: 1,
+        pointers: 3,
+        blocks: 10,
+    };
+    full_volume(plan(MOST_BLOCKS, 1, 65_535, 2, 28_910), files)
+}
+
+/// A volume of N blocks with 4,096 headers.
+pub fn of_blocks(blocks: u32) -> Volume {
+    full_volume(plan(blocks, 1, 4_096, 2, 4_096), SMALL_FILES)
+}
+
+/// A volume of 262,144 blocks with so many headers, all that H.FMAX has.
+pub fn of_h_fmax(h_fmax: u32) -> Volume {
+    full_volume(plan(262_144, 1, h_fmax as u16, 2, h_fmax), SMALL_FILES)
+}

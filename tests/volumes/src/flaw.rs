@@ -1,0 +1,271 @@
+//! Flaws: one for each way that a rule of the verdict of paper 01 can be broken on a volume that
+//! opens, and one for each change next to it that breaks none. Each tells the offenders, by the
+//! paper and not by the model.
+
+mod badhome;
+mod files;
+mod links;
+mod map;
+mod order;
+mod twice;
+
+use crate::block::seal_header;
+use crate::header::{at, Areas, Header, Pointer, MOST_POINTERS};
+use crate::random::Random;
+use crate::shapes::{random_volume, Size};
+use crate::volume::{File, Volume};
+use model::Number;
+
+/// What the verdict answers.
+#[derive(Clone, Copy, Debug, PartialEq, Eq)]
+pub enum Judged {
+    /// DONE.
+    Accepted,
+    /// A refusal, with its place.
+    Refused(Number, u64),
+}
+
+/// A header of a volume, by its number.
+type Which = fn(&Volume) -> u16;
+
+/// The offenders of a rule, in any order: numbers, LBNs or bits. None at all where nothing is wrong.
+type Offenders = Vec<u32>;
+
+/// A change of a volume: it answers the offenders, or none where the volume has nothing that it
+/// could change.
+type Edit = Box<dyn Fn(&mut Volume) -> Option<Offenders>>;
+
+/// A flaw with a name, and the rule that it breaks.
+pub struct Flaw {
+    pub name: String,
+    rule: Number,
+    edit: Edit,
+}
+
+impl Flaw {
+    /// A flaw of a rule. No rule before it is broken.
+    fn new(
+        rule: Number,
+        name: impl Into<String>,
+        edit: impl Fn(&mut Volume) -> Option<Offenders> + 'static,
+    ) -> Flaw {
+        Flaw {
+            name: format!("{}: {}", rule.name(), name.into()),
+            rule,
+            edit: Box::new(edit),
+        }
+    }
+
+    /// Changes a sound volume, and answers what the verdict then is; none where this flaw does not
+    /// apply. A volume that another flaw has changed can be changed further; what is then answered
+    /// holds of this flaw alone.
+    pub fn apply(&self, volume: &mut Volume) -> Option<Judged> {
+        let roles = volume.roles;
+        let needed = [3, 4, 5, roles.plain, roles.chained, roles.empty];
+        let has = |number: &u16| volume.files.iter().any(|file| file.number() == *number);
+        if !needed.iter().all(has) {
+            return None;
+        }
+        let offenders = (self.edit)(volume)?;
+        let lowest = offenders.into_iter().min();
+        Some(match lowest {
+            None => Judged::Accepted,
+            Some(place) => Judged::Refused(self.rule, u64::from(place)),
+        })
+    }
+}
+
+/// Every flaw.
+pub fn flaws() -> Vec<Flaw> {
+    let mut all = Vec::new();
+    all.extend(files::flaws());
+    all.extend(links::flaws());
+    all.extend(twice::flaws());
+    all.extend(badhome::flaws());
+    all.extend(map::flaws());
+    all.extend(order::flaws());
+    all
+}
+
+/// A volume with a flaw: the flaw, the sound volume, the changed one, and what the verdict then is.
+pub struct Flawed<'a> {
+    pub flaw: &'a Flaw,
+    pub sound: &'a Volume,
+    pub changed: Volume,
+    pub judged: Judged,
+}
+
+/// From so many blocks on a volume takes long to change and to judge.
+const LARGE: u32 = 2_000;
+
+/// Gives each flaw on each volume that it applies to; on large volumes a quarter of those that small
+/// ones have shown often enough. Answers the flaws that apply to none.
+pub fn each_flawed(volumes: &[Volume], mut each: impl FnMut(Flawed)) -> Vec<String> {
+    let mut none = Vec::new();
+    for (number, flaw) in flaws().iter().enumerate() {
+        let mut applied = 0;
+        for (place, sound) in volumes.iter().enumerate() {
+            let is_shown = applied >= 6 && (number + place) % 4 != 0;
+            if sound.plan.blocks > LARGE && is_shown {
+                continue;
+            }
+            let mut changed = sound.clone();
+            if let Some(judged) = flaw.apply(&mut changed) {
+                applied += 1;
+                each(Flawed {
+                    flaw,
+                    sound,
+                    changed,
+                    judged,
+                });
+            }
+        }
+        if applied == 0 {
+            none.push(flaw.name.clone());
+        }
+    }
+    none
+}
+
+/// No offender: the volume stays sound, once its storage map is put right.
+fn still_sound(volume: &mut Volume) -> Option<Offenders> {
+    volume.put_storage_map();
+    Some(vec![])
+}
+
+/// Makes a header not whole, by its H.FLEV; its checksum is right.
+fn break_header(volume: &mut Volume, number: u16) {
+    let lbn = volume.slot_of(number);
+    let block = volume.block_mut(lbn);
+    block[at::H_FLEV] = 0;
+    seal_header(block);
+}
+
+/// Puts a pointer after the last of a header, if there is room for one more.
+fn add_pointer(volume: &mut Volume, number: u16, lbn: u32, blocks: u32) -> Option<()> {
+    if volume.header(number).pointers.len() == MOST_POINTERS {
+        return None;
+    }
+    volume.edit_header(number, |header| {
+        header.pointers.push(Pointer { lbn, blocks });
+        if 2 * header.pointers.len() > usize::from(header.areas.m_max) {
+            header.areas = Areas::LARGEST;
+        }
+    });
+    Some(())
+}
+
+/// Puts a header without pointers into the slot of an unused number, and the number in use.
+fn add_header(volume: &mut Volume, sequence: u16, segment: u8) -> Option<u16> {
+    let number = volume.unused_number()?;
+    let header = Header {
+        segment,
+        ..Header::new(number, sequence, Vec::new())
+    };
+    volume.add(File {
+        headers: vec![header],
+    });
+    Some(number)
+}
+
+/// The blocks that no pointer covers, in order.
+fn free_lbns(volume: &Volume) -> Vec<u32> {
+    let covered = volume.covered();
+    let lbns = (0..).zip(covered).filter(|&(_, covered)| !covered);
+    lbns.map(|(lbn, _)| lbn).collect()
+}
+
+/// The first of `count` free blocks in a row.
+fn free_run(volume: &Volume, count: u32) -> Option<u32> {
+    let free = free_lbns(volume);
+    let mut runs = free.windows(count as usize);
+    let run = runs.find(|run| run[count as usize - 1] == run[0] + count - 1)?;
+    Some(run[0])
+}
+
+/// Volumes to judge, of every kind that some flaw needs: small ones, one whose chained file has 256
+/// headers, some with homes passed over, one whose N is a multiple of a map block's bits, and one
+/// with numbers in use past the first block of the index map.
+pub fn volumes_to_judge(seed: u64, small: u64) -> Vec<Volume> {
+    let make = |number: u64, size| {
+        let mut random = Random::of_case(seed, "volumes_to_judge", number);
+        random_volume(&mut random, size)
+    };
+    let find = |size, test: fn(&Volume) -> bool| {
+        let mut all = (1_000_000..).map(|number| make(number, size));
+        all.find(test).expect("there is always another one")
+    };
+    let mut volumes: Vec<Volume> = (0..small).map(|number| make(number, Size::Small)).collect();
+    volumes.push(find(Size::Blocks(1_200), |volume| {
+        let chained = volume.file(volume.roles.chained);
+        chained.headers.len() == 256 && volume.unused_number().is_some()
+    }));
+    volumes.push(find(Size::Blocks(1_405), |volume| {
+        volume.plan.home == 1_024
+    }));
+    volumes.push(find(Size::Blocks(900), |volume| {
+        volume.plan.home == 768 && volume.file(3).headers.len() > 2
+    }));
+    volumes.push(find(Size::Blocks(4_096), |volume| volume.plan.home == 512));
+    volumes.push(find(Size::Blocks(4_099), |volume| {
+        volume.plan.home == 1 && volume.last_slot() > u32::from(volume.plan.h_fmax)
+    }));
+    volumes.push(find(Size::Blocks(13_000), |volume| {
+        volume.headers().any(|header| header.number > 4_096)
+    }));
+    volumes
+}
+
+#[cfg(test)]
+mod tests {
+    use super::*;
+    use model::verdict::{self, Refusal};
+    use model::{sound, volume};
+    use std::collections::BTreeMap;
+
+    #[test]
+    fn names_are_told_apart() {
+        let mut names: Vec<String> = flaws().into_iter().map(|flaw| flaw.name).collect();
+        let all = names.len();
+        names.sort_unstable();
+        names.dedup();
+        assert_eq!(names.len(), all);
+        assert!(all > 550, "{all} flaws");
+    }
+
+    /// Judges a volume by the model, and holds what sound means to that.
+    fn judged(image: &[u8], blocks: &mut [u8], headers: &mut [u8]) -> Judged {
+        let verdict = verdict::verdict(image, blocks, headers);
+        assert_eq!(verdict.is_ok(), sound::opens_and_is_sound(image));
+        match verdict {
+            Ok(_) => Judged::Accepted,
+            Err(Refusal::BeforeJudging(number)) => Judged::Refused(number, 0),
+            Err(Refusal::Offender { number, place, .. }) => Judged::Refused(number, place),
+        }
+    }
+
+    #[test]
+    fn every_flaw_is_judged_as_the_paper_says() {
+        let volumes = volumes_to_judge(5, 16);
+        let mut blocks = vec![0; 13_000];
+        let mut headers = vec![0; 65_535];
+        let mut met = BTreeMap::new();
+        let none = each_flawed(&volumes, |flawed| {
+            let image = &flawed.changed.image;
+            let (name, built) = (&flawed.flaw.name, flawed.sound.describe());
+            assert!(volume::open(image).is_ok(), "{name}, {built}");
+            let judged = judged(image, &mut blocks, &mut headers);
+            assert_eq!(judged, flawed.judged, "{name}, {built}");
+            let number = match judged {
+                Judged::Accepted => Number::Done,
+                Judged::Refused(number, _) => number,
+            };
+            *met.entry(number.number()).or_insert(0) += 1;
+        });
+        assert!(none.is_empty(), "{none:?} do not apply");
+        for number in [0, 17, 18, 19, 20, 21] {
+            let times = met.get(&number).copied().unwrap_or(0);
+            assert!(times >= 60, "number {number} {times} times");
+        }
+    }
+}
