@@ -2,10 +2,14 @@
 
 .PHONY: help test bench judge
 
+# What is judged.
+IMAGE = samples/volume-v.dsk
+
 help:
 	@echo 'make test             prove every crate, build the library and run every test: what the gate runs'
 	@echo 'make bench            measure the exported calls against plain Rust'
-	@echo 'make judge IMAGE=FILE judge the volume in FILE'
+	@echo 'make judge IMAGE=FILE prove and build the judging program, and judge the volume in FILE, of at most 65,536 bytes;
+	@echo '                      without IMAGE it is Volume V, samples/volume-v.dsk'
 
 test:
 	@scripts/test.sh
@@ -15,4 +19,5 @@ bench:
 	cd tests && cargo run --release --offline --locked -p bench
 
 judge:
-	$(error the judging program comes with the verdict, and is not here yet)
+	@rt check judge >target/judge.log 2>&1 || { cat target/judge.log; exit 1; }
+	@target/bin/judge <'$(IMAGE)'

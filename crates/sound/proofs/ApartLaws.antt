@@ -69,7 +69,7 @@ module _ (image : List ℕ) (o : Opens image) where
   slot-at n = refl
 
 pub apart : BlocksApart
-apart image bytes passed s =
+apart image passed s =
     let o = opens image passed in
     record {
       different = file-different image s;

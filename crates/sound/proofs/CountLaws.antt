@@ -53,4 +53,4 @@ module _ (image : List ℕ) (s : Sound image) where
       omega (arith, free-below)
 
 pub counts : CountsAdd
-counts image opens s = counts-add image s
+counts = counts-add

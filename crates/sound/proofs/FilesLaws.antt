@@ -10,7 +10,7 @@ use Rattle.volume.specs.Volume.{fmax, slots, hasSlot, header, faultOf, inUse}
 use Rattle.numbers.specs.Files.{isKnown, badFile, unmetOf, filesPlace, files}
 use Rattle.sound.specs.Sound.{Known}
 use Rattle.sound.proofs.Tests.{Tests, Spares, Judges, t-eq, t-le, t-is, t-and, t-map, s-or, s-unmet, j-each, j-map}
-use Rattle.sound.proofs.GatherLaws.{used-range}
+use Rattle.slots.proofs.SlotLaws.{used-range}
 
 pub record FilesSound (image : List ℕ) : Type 0 where
   pub known : (n : ℕ) → 1 ≤ n → n ≤ 5 → Known image n

@@ -13,12 +13,7 @@ use Rattle.marks.specs.Counts.{count}
 use Rattle.marks.proofs.SumLaws.{when, sumTo, sum-one, sum-apart, sum-find, Heavy, Places, sum-pair}
 use Rattle.marks.proofs.CountLaws.{count-none, count-append, count-at, count-apart, count-find, count-pair}
 use Rattle.slots.specs.Slots.{gathered}
-use Rattle.sound.proofs.Tests.{t-is, t-le, t-and}
-
--- A number in use is one from 1 to H.FMAX.
-pub used-range : (image : List ℕ) (n : ℕ) → inUse image n ≡ true → (1 ≤ n) × (n ≤ fmax image)
-unfolding inUse
-used-range image n u = t-and (t-and (t-le 1 n) (t-le n (fmax image))) (t-is _) .yields u .0
+use Rattle.slots.proofs.SlotLaws.{used-range}
 
 module _ (image : List ℕ) (give : List ℕ → List ℕ) where
   -- How often number k gives x: not at all where it is not in use.

@@ -16,7 +16,8 @@ use Rattle.marks.proofs.SumLaws.{sumTo}
 use Rattle.numbers.specs.Links.{linkOf, linked, linksWanted, badLinks, linksPlace, links}
 use Rattle.sound.specs.Sound.{GoodLink, OneLink}
 use Rattle.sound.proofs.Tests.{Tests, Judges, t-eq, t-le, t-is, t-and, t-or, t-map, s-unmet, j-each, j-map}
-use Rattle.sound.proofs.GatherLaws.{used-range, givenBy, Gives, gathered-count, gathered-has, gathered-find, gathered-apart, gathered-once}
+use Rattle.slots.proofs.SlotLaws.{used-range}
+use Rattle.sound.proofs.GatherLaws.{givenBy, Gives, gathered-count, gathered-has, gathered-find, gathered-apart, gathered-once}
 
 -- No header in use links to n.
 abbrev pub NoLink : List ℕ → ℕ → Type 0

@@ -4,7 +4,6 @@ use mathlib.Core.Bool.{Bool, true, false}
 use mathlib.Core.List.{List}
 use Prim.Native.Nat.{ℕ, _+_, _≤_, _<_}
 use lib.ListN.{length, getD}
-use Rattle.image.specs.Words.{Bytes}
 use Rattle.answer.specs.declared.outcome.Outcome.the-variants.{Passed}
 use Rattle.header.specs.Fields.{segment}
 use Rattle.volume.specs.Home.{blocks, position, homeIndex, home}
@@ -32,7 +31,7 @@ VerdictExact = (image area headers : List ℕ) → blocks image ≤ length area 
 
 -- 01, What would not satisfy us: "claimed counts the covered LBNs, free the set bits, and on an accepted image they add to N".
 abbrev pub CountsAdd : Type 0
-CountsAdd = (image : List ℕ) → openVolume image ≡ Passed → Sound image → claimed image + free image ≡ blocks image
+CountsAdd = (image : List ℕ) → Sound image → claimed image + free image ≡ blocks image
 
 -- A file: a number in use with a header of segment 0.
 pub record IsFile (image : List ℕ) (n : ℕ) : Type 0 where
@@ -55,4 +54,4 @@ pub record Apart (image : List ℕ) : Type 0 where
   pub passed : (i : ℕ) → i < homeIndex image → BlockOf image 3 (position i)
 
 abbrev pub BlocksApart : Type 0
-BlocksApart = (image : List ℕ) → Bytes image → openVolume image ≡ Passed → Sound image → Apart image
+BlocksApart = (image : List ℕ) → openVolume image ≡ Passed → Sound image → Apart image

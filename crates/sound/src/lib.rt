@@ -6,7 +6,7 @@ pub fn accepts_exactly_the_sound()
     ensures { λ _. ⌜ VerdictExact ⌝ }
 {}
 
-// Covered blocks and free bits of an image that opens and is sound add up to N.
+// Covered blocks and free bits of a sound image add up to N.
 pub fn claimed_and_free_add_up()
     ensures { λ _. ⌜ CountsAdd ⌝ }
 {}

@@ -1,5 +1,8 @@
--- t
-use mathlib.Core.Path.{refl}
+-- The verdict on Volume V, computed; that it is sound follows, since the verdict accepts nothing else.
+use mathlib.Core.Path.{_≡_, refl}
+use Prim.Native.Nat.{_≤_}
+use native.Mathlib.Omega.{arith}
+use Rattle.answer.specs.declared.outcome.Outcome.the-variants.{Passed}
 use Rattle.image.specs.First.{first, below}
 use Rattle.image.specs.Words.{wordAt}
 use Rattle.image.specs.Blocks.{region, block}
@@ -22,8 +25,27 @@ use Rattle.numbers.specs.Links.{linkOf as linkList, linked, linksWanted, badLin
 use Rattle.covers.specs.Covered.{covered, coveredTwice, twicePlace, twice, mapBits, wrongBit, mapPlace, map}
 use Rattle.covers.specs.Homes.{leftOut, badHomeIndex, badHome}
 use Rattle.verdict.specs.Verdict.{roomy, ready, verdict}
-use Rattle.witness.specs.Witness.{VAccepted}
+use Rattle.sound.proofs.ExactLaws.{exact, verdict-judges}
+use Rattle.witness.specs.Witness.{Accepted}
 
-pub v-accepted : VAccepted
+-- N, H.FMAX and the verdict.
+size : blocks volumeV ≡ 100
 unfolding first below wordAt region block bitOf bitAt wordSum checksum zeros numbersFrom unless _then_ hIdof hMpof hFnum hFseq hFlev userFlags systemFlags mapArea segment mErvn mEfnu mEfsq mCtsz mLbsz mUse mMax pointerLbn pointerCount run runs pointersAt pointers blocksOf endsInside linkTests mapTests tests firstUnmet fault hIbsz hIblb hFmax hSbcl hVlev label labelAt isHome blocks position positions homeAt homeIndex home ibsz iblb fmax indexHeader index slot slots hasSlot header faultOf indexMap inUse isNumber mapBlocks base storageMap sized homed indexMapBlocks geometry alone indexLbn indexAt indexMapped indexed storageMapped stored openVolume linksOn goodLink chain chainOf every linkOf goodChain flat fileBlocks words join homeBlock indexMapBlock headerBlock endOfFile storageMapBlock directoryBlock volumeV count gathered isKnown badFile filesPlace files linkList linked linksWanted badLinks linksPlace links covered coveredTwice twicePlace twice mapBits wrongBit mapPlace map leftOut badHomeIndex badHome roomy ready verdict
-v-accepted = refl
+size = refl
+
+numbers : fmax volumeV ≡ 16
+unfolding first below wordAt region block bitOf bitAt wordSum checksum zeros numbersFrom unless _then_ hIdof hMpof hFnum hFseq hFlev userFlags systemFlags mapArea segment mErvn mEfnu mEfsq mCtsz mLbsz mUse mMax pointerLbn pointerCount run runs pointersAt pointers blocksOf endsInside linkTests mapTests tests firstUnmet fault hIbsz hIblb hFmax hSbcl hVlev label labelAt isHome blocks position positions homeAt homeIndex home ibsz iblb fmax indexHeader index slot slots hasSlot header faultOf indexMap inUse isNumber mapBlocks base storageMap sized homed indexMapBlocks geometry alone indexLbn indexAt indexMapped indexed storageMapped stored openVolume linksOn goodLink chain chainOf every linkOf goodChain flat fileBlocks words join homeBlock indexMapBlock headerBlock endOfFile storageMapBlock directoryBlock volumeV count gathered isKnown badFile filesPlace files linkList linked linksWanted badLinks linksPlace links covered coveredTwice twicePlace twice mapBits wrongBit mapPlace map leftOut badHomeIndex badHome roomy ready verdict
+numbers = refl
+
+computed : verdict volumeV 100 16 ≡ Passed
+unfolding first below wordAt region block bitOf bitAt wordSum checksum zeros numbersFrom unless _then_ hIdof hMpof hFnum hFseq hFlev userFlags systemFlags mapArea segment mErvn mEfnu mEfsq mCtsz mLbsz mUse mMax pointerLbn pointerCount run runs pointersAt pointers blocksOf endsInside linkTests mapTests tests firstUnmet fault hIbsz hIblb hFmax hSbcl hVlev label labelAt isHome blocks position positions homeAt homeIndex home ibsz iblb fmax indexHeader index slot slots hasSlot header faultOf indexMap inUse isNumber mapBlocks base storageMap sized homed indexMapBlocks geometry alone indexLbn indexAt indexMapped indexed storageMapped stored openVolume linksOn goodLink chain chainOf every linkOf goodChain flat fileBlocks words join homeBlock indexMapBlock headerBlock endOfFile storageMapBlock directoryBlock volumeV count gathered isKnown badFile filesPlace files linkList linked linksWanted badLinks linksPlace links covered coveredTwice twicePlace twice mapBits wrongBit mapPlace map leftOut badHomeIndex badHome roomy ready verdict
+computed = refl
+
+pub accepted : Accepted
+accepted =
+    let both = verdict-judges volumeV 100 16 (omega (arith, size)) (omega (arith, numbers)) .yields computed in
+    record {
+      opens = both .0;
+      sound = both .1;
+      accepted = λ area headers a h. exact volumeV area headers (omega (arith, size)) (omega (arith, numbers)) .always (both .0) (both .1);
+    }
