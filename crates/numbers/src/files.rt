@@ -27,18 +27,17 @@ ghost use Rattle.slots.specs.Slots.{Stands};
 ghost use Rattle.numbers.specs.Files.{badFile, unmetOf, filesPlace, files};
 ghost use Rattle.numbers.specs.Links.{isSingle, UnlinkedBelow, Unlinked};
 
-// What is found where FILES looks for its lowest offender.
+// What the search for the lowest offender finds.
 struct Search {
     // The offender; H.FMAX + 1 where there is none.
     place: u32,
-    // Whether every header in use below it is the only one of its file.
+    // Whether each header in use below it is the only one of its file.
     single: bool,
 }
 
-// FILES, and what LINKS can go by.
+// FILES; and, where it is passed, whether each header in use is the only one of its file.
 pub struct FilesJudged {
     pub outcome: Outcome,
-    // Whether every header in use is the only one of its file, where FILES is passed.
     pub single: bool,
 }
 
@@ -75,7 +74,7 @@ fn is_single(image: &[u8], used: bool, lbn: Lbn) -> bool
     (m_efnu(h) == 0) & (segment(h) == 0)
 }
 
-// The lowest number that offends; H.FMAX + 1 where there is none. And whether all below it are single.
+// The lowest number that offends; H.FMAX + 1 where there is none. And whether each header in use below it is the only one of its file.
 fn first_bad_file(image: &[u8], v: Volume) -> Search
     requires { ⌜ Open (now image) v ⌝ }
     ensures { λ r. ⌜ (r .place ≡ filesPlace (now (image .entry))) × (r .single ≡ true → UnlinkedBelow (now (image .entry)) (r .place)) ⌝ }

@@ -149,7 +149,7 @@ fn first_bad_link(image: &[u8], v: Volume, headers: &[u8]) -> u32
     n
 }
 
-// LINKS, with the counts left in the marks. Where every header is known to be the only one of its file, LINKS is passed and no header is linked.
+// LINKS, with the counts left in the marks. Where each header in use is known to be the only one of its file, LINKS is passed and the counts are 0.
 pub fn links(image: &[u8], v: Volume, single: bool, headers: &mut [u8]) -> Outcome
     requires { ⌜ Open (now image) v × (files (now image) ≡ outcome.Passed) × (fmax (now image) ≤ length (now headers))
         × (single ≡ true → Unlinked (now image)) ⌝ }

@@ -1,4 +1,4 @@
--- The loop is at n while none of the numbers below n offends, its run of slots stands at n, and single says whether the headers in use below n are.
+-- The loop is at n while none of the numbers below n offends and its run of slots stands at n; while single holds, each header in use below n is single.
 use borrow.Author.Needs.{needs}
 use native.Mathlib.Omega.{arith}
 use mathlib.Core.Path.{_≡_, sym, ap, _∙_}
