@@ -2,12 +2,13 @@
 use mathlib.Core.Path.{_≡_, refl, sym, _∙_}
 use mathlib.Core.Bool.{Bool, true, false, not, _&&_, _||_, false≢true, and-false, or-true}
 use mathlib.Core.List.{List}
-use Prim.Native.Nat.{ℕ, _≤_, _<_}
+use Prim.Native.Nat.{ℕ, _+_, _≤_, _<_}
 use native.Mathlib.Decide.{ℕ-discrete, decLe}
 use native.Mathlib.Omega.{arith}
 use borrow.Author.Tests.{eqb-true, eq-eqb, ne-eqb, le-leb, lt-leb}
 use lib.Dec.{eqb, leb}
 use Rattle.answer.specs.declared.outcome.Outcome.the-variants.{Passed}
+use Rattle.answer.proofs.OutcomeLaws.{passed-last}
 use Rattle.header.specs.Fields.{hFseq, segment}
 use Rattle.volume.specs.Volume.{fmax, slots, hasSlot, header, faultOf, inUse, isNumber}
 use Rattle.slots.proofs.SlotLaws.{used-range}
@@ -61,7 +62,7 @@ pub record FilesPassed (image : List ℕ) : Type 0 where
 
 module _ (image : List ℕ) where
   module _ (n : ℕ) (good : badFile image n ≡ false) where
-    good-slotted : inUse image n ≡ true → n ≤ slots image
+    pub good-slotted : inUse image n ≡ true → n ≤ slots image
     good-slotted u = go (decLe n (slots image))
       where
         go : Dec (n ≤ slots image) → n ≤ slots image
@@ -111,6 +112,11 @@ module _ (image : List ℕ) where
       go n l true u (no h) = bad-other image n u (f .slotted n u) (f .whole n u) (omega arith)
       go n l false u (yes h) = absurd (false≢true (sym u ∙ f .known n l h .used))
       go n l false u (no h) = rw (bad-unused image n u, lt-leb n 5 (omega arith))
+
+-- There is no offender.
+pub files-place : (image : List ℕ) → files image ≡ Passed → filesPlace image ≡ 1 + fmax image
+unfolding files
+files-place image e = eqb-true (filesPlace image) (1 + fmax image) (passed-last (eqb (filesPlace image) (1 + fmax image)) _ e)
 
 -- A number in use is then one that has a slot.
 pub files-number : (image : List ℕ) → FilesPassed image → (n : ℕ) → inUse image n ≡ true → isNumber image n ≡ true

@@ -1,3 +1,4 @@
 pub mod SearchLaws
 pub mod FileLaws
 pub mod LinksLaws
+pub mod UnlinkedLaws

@@ -1,7 +1,8 @@
 -- LINKS: what the verdict asks of the links between headers in use.
-use mathlib.Core.Bool.{Bool, cond, not, _&&_}
+use mathlib.Core.Path.{_≡_}
+use mathlib.Core.Bool.{Bool, true, cond, not, _&&_}
 use mathlib.Core.List.{List, [], _∷_}
-use Prim.Native.Nat.{ℕ, _+_, _-_}
+use Prim.Native.Nat.{ℕ, _+_, _-_, _<_}
 use lib.Dec.{eqb, leb}
 use Rattle.image.specs.First.{first}
 use Rattle.answer.specs.declared.refusal.Refusal.the-variants as refusal
@@ -42,3 +43,16 @@ linksPlace image = first (badLinks image (linked image)) 1 (fmax image)
 
 unfoldable pub links : List ℕ → Outcome
 links image = unless (eqb (linksPlace image) (1 + fmax image)) (refusal.Links (linksPlace image))
+
+-- A header that links to none and stands first: it is the only one of its file, unless another links to it.
+unfoldable pub isSingle : List ℕ → Bool
+isSingle h = eqb (mEfnu h) 0 && eqb (segment h) 0
+
+-- The same for the headers in use of numbers below n.
+abbrev pub UnlinkedBelow : List ℕ → ℕ → Type 0
+UnlinkedBelow image n = (m : ℕ) → m < n → inUse image m ≡ true → isSingle (header image m) ≡ true
+
+-- No header in use links to another, and none stands behind another: each is the only one of its file.
+pub record Unlinked (image : List ℕ) : Type 0 where
+  pub ends : (n : ℕ) → inUse image n ≡ true → mEfnu (header image n) ≡ 0
+  pub first : (n : ℕ) → inUse image n ≡ true → segment (header image n) ≡ 0

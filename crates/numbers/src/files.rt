@@ -2,8 +2,10 @@
 use answer::outcome::Outcome;
 use answer::refusal::Refusal;
 use answer::types::FileNumber;
+use answer::types::Lbn;
 use file::chains::slot_in_use;
 use header::fields::h_fseq;
+use header::fields::m_efnu;
 use header::fields::segment;
 use header::whole::fault;
 use image::bits::bit_at;
@@ -15,11 +17,29 @@ use slots::slots::slot_run;
 use volume::volume::Slot;
 use volume::volume::Volume;
 ghost use mathlib.Core.Path.{_≡_};
+ghost use mathlib.Core.Bool.{true, cond};
 ghost use Prim.Native.Nat.{_≤_};
+ghost use Rattle.image.specs.Blocks.{block};
+ghost use Rattle.answer.specs.declared.outcome.Outcome.the-variants.{Passed};
 ghost use Rattle.volume.specs.Volume.{inUse};
 ghost use Rattle.volume.specs.Opening.{Open};
 ghost use Rattle.slots.specs.Slots.{Stands};
 ghost use Rattle.numbers.specs.Files.{badFile, unmetOf, filesPlace, files};
+ghost use Rattle.numbers.specs.Links.{isSingle, UnlinkedBelow, Unlinked};
+
+// What the search for the lowest offender finds.
+struct Search {
+    // The offender; H.FMAX + 1 where there is none.
+    place: u32,
+    // Whether each header in use below it is the only one of its file.
+    single: bool,
+}
+
+// FILES; and, where it is passed, whether each header in use is the only one of its file.
+pub struct FilesJudged {
+    pub outcome: Outcome,
+    pub single: bool,
+}
 
 // Whether number n offends. A number that is in use, or known, must have a whole header; a known one its own number as sequence, and segment 0.
 fn is_bad_file(image: &[u8], v: Volume, n: FileNumber, used: bool, run: SlotRun) -> bool
@@ -43,23 +63,36 @@ fn is_bad_file(image: &[u8], v: Volume, n: FileNumber, used: bool, run: SlotRun)
     ((h_fseq(h) as u32) != number) | (segment(h) != 0)
 }
 
-// The lowest number that offends; H.FMAX + 1 where there is none.
-fn first_bad_file(image: &[u8], v: Volume) -> u32
+// Whether the header at an LBN is the only one of its file, where its number is in use; else true.
+fn is_single(image: &[u8], used: bool, lbn: Lbn) -> bool
+    ensures { λ r. ⌜ r ≡ cond used (isSingle (block (now (image .entry)) (lbn .0))) true ⌝ }
+{
+    if !used {
+        return true;
+    }
+    let h = block(image, lbn.0);
+    (m_efnu(h) == 0) & (segment(h) == 0)
+}
+
+// The lowest number that offends; H.FMAX + 1 where there is none. And whether each header in use below it is the only one of its file.
+fn first_bad_file(image: &[u8], v: Volume) -> Search
     requires { ⌜ Open (now image) v ⌝ }
-    ensures { λ r. ⌜ r ≡ filesPlace (now (image .entry)) ⌝ }
+    ensures { λ r. ⌜ (r .place ≡ filesPlace (now (image .entry))) × (r .single ≡ true → UnlinkedBelow (now (image .entry)) (r .place)) ⌝ }
 {
     let map = region(image, v.iblb, v.ibsz);
     let mut run = slot_run(image, v, FileNumber(1));
+    let mut single = true;
     let mut n: u32 = 1;
     while n <= v.fmax {
         let used = bit_at(map, (n - 1) as usize) == 1;
         if is_bad_file(image, v, FileNumber(n), used, run) {
-            return n;
+            return Search { place: n, single };
         }
+        single = single & is_single(image, used, run.lbn);
         run = next_run(image, v, FileNumber(n), run);
         n += 1;
     }
-    n
+    Search { place: n, single }
 }
 
 // The first test that the header of a number does not meet; 0 where the number is not in use, has no slot or its header is whole.
@@ -75,14 +108,22 @@ fn unmet_of(image: &[u8], v: Volume, n: FileNumber) -> u8
 }
 
 // FILES.
-pub fn files(image: &[u8], v: Volume) -> Outcome
+pub fn files(image: &[u8], v: Volume) -> FilesJudged
     requires { ⌜ Open (now image) v ⌝ }
-    ensures { λ r. ⌜ r ≡ files (now (image .entry)) ⌝ }
+    ensures { λ r. ⌜ (r .outcome ≡ files (now (image .entry))) × (files (now (image .entry)) ≡ Passed → r .single ≡ true → Unlinked (now (image .entry))) ⌝ }
 {
-    let place = first_bad_file(image, v);
+    let search = first_bad_file(image, v);
+    let place = search.place;
+    let single = search.single;
     if v.fmax < place {
-        return Outcome::Passed;
+        return FilesJudged {
+            outcome: Outcome::Passed,
+            single,
+        };
     }
     let test = unmet_of(image, v, FileNumber(place));
-    Outcome::Refused(Refusal::Files(place, test))
+    FilesJudged {
+        outcome: Outcome::Refused(Refusal::Files(place, test)),
+        single,
+    }
 }

@@ -20,7 +20,7 @@ use slots::slots::slot_run;
 use volume::volume::Slot;
 use volume::volume::Volume;
 ghost use mathlib.Core.Path.{_≡_};
-ghost use mathlib.Core.Bool.{cond};
+ghost use mathlib.Core.Bool.{true, cond};
 ghost use mathlib.Core.List.{[]};
 ghost use Prim.Native.Nat.{_≤_};
 ghost use lib.ListN.{length};
@@ -33,7 +33,7 @@ ghost use Rattle.file.specs.Chains.{goodLink};
 ghost use Rattle.marks.specs.Marks.{capped, tallied};
 ghost use Rattle.slots.specs.Slots.{Stands};
 ghost use Rattle.numbers.specs.Files.{files};
-ghost use Rattle.numbers.specs.Links.{linked, raisedLink, linksWanted, badLinks, linksPlace, links};
+ghost use Rattle.numbers.specs.Links.{linked, raisedLink, linksWanted, badLinks, linksPlace, links, Unlinked};
 
 // The mark of number t raised, if t is from 1 to H.FMAX.
 fn raise_link(headers: &mut [u8], fmax: u32, t: u32)
@@ -149,12 +149,18 @@ fn first_bad_link(image: &[u8], v: Volume, headers: &[u8]) -> u32
     n
 }
 
-// LINKS, with the counts left in the marks.
-pub fn links(image: &[u8], v: Volume, headers: &mut [u8]) -> Outcome
-    requires { ⌜ Open (now image) v × (files (now image) ≡ outcome.Passed) × (fmax (now image) ≤ length (now headers)) ⌝ }
+// LINKS, with the counts left in the marks. Where each header in use is known to be the only one of its file, LINKS is passed and the counts are 0.
+pub fn links(image: &[u8], v: Volume, single: bool, headers: &mut [u8]) -> Outcome
+    requires { ⌜ Open (now image) v × (files (now image) ≡ outcome.Passed) × (fmax (now image) ≤ length (now headers))
+        × (single ≡ true → Unlinked (now image)) ⌝ }
     ensures { λ r. ⌜ (r ≡ links (now (image .entry)))
         × (now (headers .exit) ≡ tallied (linked (now (image .entry))) 1 (fmax (now (image .entry))) (now (headers .entry))) ⌝ }
 {
+    if single {
+        let numbers = v.fmax as usize;
+        clear_first(headers, numbers);
+        return Outcome::Passed;
+    }
     count_links(image, v, headers);
     let place = first_bad_link(image, v, headers);
     if v.fmax < place {

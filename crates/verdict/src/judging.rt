@@ -82,10 +82,11 @@ fn judge_opened(image: &[u8], v: Volume, area: &mut [u8], headers: &mut [u8]) ->
         × (now (area .exit) ≡ afterwards (files (now (image .entry)) then links (now (image .entry))) (now (area .entry)) (tallied (covered (now (image .entry))) 0 (blocks (now (image .entry))) (now (area .entry))))
         × (now (headers .exit) ≡ afterwards (files (now (image .entry))) (now (headers .entry)) (tallied (linked (now (image .entry))) 1 (fmax (now (image .entry))) (now (headers .entry)))) ⌝ }
 {
-    let numbered = files(image, v);
+    let f = files(image, v);
+    let numbered = f.outcome;
     match numbered {
         Outcome::Passed => {
-            let chained = links(image, v, headers);
+            let chained = links(image, v, f.single, headers);
             match chained {
                 Outcome::Passed => judge_blocks(image, v, area),
                 Outcome::Refused(r) => Outcome::Refused(r),

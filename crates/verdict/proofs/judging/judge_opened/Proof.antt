@@ -23,7 +23,7 @@ module _ (c : tie.After-enum-told) where
   start = filing .before .before .before .before
 
   numbered : files (now (start .args .image)) ≡ outcome.Passed
-  numbered = sym (filing .files .ensures) ∙ c .enum-told .given .1
+  numbered = sym (filing .files .ensures .0) ∙ c .enum-told .given .1
 
 module _ (c : tie.After-enum-told2) where
   abbrev linking : tie.After-links
@@ -39,7 +39,7 @@ files-requires : tie.Need-files-requires
 files-requires c κs = c .before .before .before .pre .0
 
 links-requires : tie.Need-links-requires
-links-requires c κs = let t = c .before in (start t .pre .0, numbered t, start t .pre .2)
+links-requires c κs = let t = c .before in (start t .pre .0, numbered t, start t .pre .2, filing t .files .ensures .1 (numbered t))
 
 judge-blocks-requires : tie.Need-judge-blocks-requires
 judge-blocks-requires c κs = let t = c .before in (start (told t) .pre .0, numbered (told t), chained t, start (told t) .pre .1)
@@ -64,7 +64,7 @@ returns-3 : tie.Need-returns-3
 unfolding _then_ afterwards
 returns-3 c =
     let n = c .before in
-    let e = sym (n .before .before .files .ensures) ∙ n .numbered .given .1 in
+    let e = sym (n .before .before .files .ensures .0) ∙ n .numbered .given .1 in
     (rw e refl, rw e refl, rw e refl)
 
 pub judge-opened-spec : {M : Type 1} → statement M

@@ -1,0 +1,25 @@
+-- The header is read where its number is in use.
+use borrow.Author.Needs.{needs}
+use borrow.Author.Tests.{not-true, not-false}
+use Rattle.numbers.specs.Links.{isSingle}
+use Rattle.numbers.proofs.files.is_single.Statement.{statement}
+use Rattle.numbers.proofs.files.is_single.Tie as tie
+use Rattle.numbers.proofs.files.is_single.Reads as reads
+use Rattle.numbers.proofs.files.is_single.Lts as lts
+use Rattle.header.proofs.fields.m_efnu.Reads as m-efnu-reads
+use Rattle.header.proofs.fields.segment.Reads as segment-reads
+use Rattle.image.proofs.blocks.block.Reads as block-reads
+
+returns : tie.Need-returns
+returns c = rw (not-true (c .before .before .args .used) (c .if1 .taken))
+
+returns-2 : tie.Need-returns-2
+unfolding isSingle
+returns-2 c =
+    let m = c .before in
+    let b = m .before in
+    let e = b .before in
+    rw (not-false (e .before .before .args .used) (e .if1 .left), ← b .block .ensures, ← m .m-efnu .ensures, ← c .segment .ensures)
+
+pub is-single-spec : {M : Type 1} → statement M
+is-single-spec = tie.close (tie.spec returns (search needs) (search needs) (search needs) returns-2)
