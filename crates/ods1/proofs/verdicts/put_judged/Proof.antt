@@ -1,0 +1,19 @@
+-- The words of the case that there is.
+use mathlib.Core.Path.{ap, sym, _∙_}
+use Rattle.ods1.specs.Judging.{judgedWords}
+use borrow.Author.Needs.{needs}
+use Rattle.ods1.proofs.verdicts.put_judged.Statement.{statement}
+use Rattle.ods1.proofs.verdicts.put_judged.Tie as tie
+use Rattle.ods1.proofs.verdicts.put_judged.Reads as reads
+use Rattle.ods1.proofs.verdicts.put_judged.Lts as lts
+use Rattle.answer.proofs.words.put_done.Reads as put-done-reads
+use Rattle.answer.proofs.words.put_refused.Reads as put-refused-reads
+
+returns : tie.Need-returns
+returns c = c .put-done .ensures ∙ ap judgedWords (sym (c .before .before .before .judged .given .1))
+
+returns-2 : tie.Need-returns-2
+returns-2 c = c .put-refused .ensures ∙ ap judgedWords (sym (c .before .before .before .judged2 .given .1))
+
+pub put-judged-spec : {M : Type 1} → statement M
+put-judged-spec = tie.close (tie.spec (search needs) (search needs) (search needs) (search needs) (search needs) (search needs) (search needs) (search needs) returns returns-2)
