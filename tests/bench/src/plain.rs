@@ -472,14 +472,20 @@ fn verdict(image: &[u8], blocks: &mut [u8], headers: &mut [u8]) -> Result<[u64; 
     }
     let blocks = &mut blocks[..volume.blocks as usize];
     let headers = &mut headers[..usize::from(volume.h_fmax)];
-    volume.judge_files()?;
-    volume.mark_links(headers);
-    volume.judge_links(headers)?;
-    volume.mark_blocks(blocks);
-    match blocks.iter().position(|&mark| mark > 1) {
-        Some(lbn) => return Err((TWICE, lbn as u32)),
-        None => volume.judge_badhome(blocks)?,
+    if volume.judge_files()? {
+        // No header is linked, and none has a segment number: LINKS is passed.
+        headers.fill(0);
+    } else {
+        volume.mark_links(headers);
+        volume.judge_links(headers)?;
     }
+    volume.mark_blocks(blocks);
+    // That there is none is seen many marks at a time.
+    if blocks.iter().copied().max() > Some(1) {
+        let lbn = blocks.iter().position(|&mark| mark > 1);
+        return Err((TWICE, lbn.expect("the highest is there") as u32));
+    }
+    volume.judge_badhome(blocks)?;
     volume.judge_map(blocks)?;
     let claimed = blocks.iter().filter(|&&mark| mark > 0).count();
     let free = volume.storage_map().iter();
@@ -517,7 +523,9 @@ impl<'a> Volume<'a> {
         in_use.map(|(number, slot)| (number, Header::known(slot)))
     }
 
-    fn judge_files(&self) -> Result<(), Placed> {
+    /// Answers whether each header in use is the only one of its file.
+    fn judge_files(&self) -> Result<bool, Placed> {
+        let mut single = true;
         let mut last = 0;
         for (number, slot) in (1..).zip(self.slots()) {
             last = number;
@@ -528,6 +536,7 @@ impl<'a> Volume<'a> {
                 if number <= 5 && !own {
                     return Err((FILES, number));
                 }
+                single &= header.link().0 == 0 && header.segment() == 0;
             } else if number <= 5 {
                 return Err((FILES, number));
             }
@@ -535,7 +544,7 @@ impl<'a> Volume<'a> {
         let mut without = last + 1..=u32::from(self.h_fmax);
         match without.find(|&number| self.in_use(number)) {
             Some(number) => Err((FILES, number)),
-            None => Ok(()),
+            None => Ok(single),
         }
     }
 
@@ -611,6 +620,11 @@ impl<'a> Volume<'a> {
     fn judge_map(&self, marks: &[u8]) -> Result<(), Placed> {
         let map = self.storage_map();
         for (place, (&byte, marks)) in map.iter().zip(marks.chunks(8)).enumerate() {
+            // A byte that is as its eight marks want it is passed at once.
+            let weigh = |(bit, &mark): (usize, &u8)| u8::from(mark == 0) << bit;
+            if marks.len() == 8 && byte == marks.iter().enumerate().map(weigh).sum() {
+                continue;
+            }
             for (bit, &mark) in marks.iter().enumerate() {
                 if byte >> bit & 1 == mark.min(1) {
                     return Err((MAP, (8 * place + bit) as u32));

@@ -8,8 +8,7 @@ mod known;
 mod number;
 
 use crate::block::{is_sealed_header, is_sealed_home, seal_header, seal_home};
-use crate::random::Random;
-use crate::shapes::{random_volume, Size};
+use crate::shapes::{Maker, Size};
 use crate::volume::Volume;
 use model::{Id, Number};
 
@@ -179,20 +178,13 @@ pub fn damages() -> Vec<Damage> {
 /// Volumes to damage, of every kind that some damage needs: small ones, one whose chained file has
 /// 256 headers, and one whose maps have more than one block.
 pub fn volumes_to_damage(seed: u64, small: u64) -> Vec<Volume> {
-    let make = |number: u64, size| {
-        let mut random = Random::of_case(seed, "volumes_to_damage", number);
-        random_volume(&mut random, size)
+    let maker = Maker {
+        seed,
+        purpose: "volumes_to_damage",
     };
-    let find = |size, test: fn(&Volume) -> bool| {
-        let mut all = (1_000_000..).map(|number| make(number, size));
-        all.find(test).expect("there is always another one")
-    };
-    let mut volumes: Vec<Volume> = (0..small).map(|number| make(number, Size::Small)).collect();
-    volumes.push(find(Size::Blocks(1_200), |volume| {
-        let chained = volume.file(volume.roles.chained);
-        chained.headers.len() == 256 && volume.unused_number().is_some()
-    }));
-    volumes.push(find(Size::Blocks(4_097), |volume| {
+    let mut volumes = maker.small(small);
+    volumes.push(maker.longest_chain());
+    volumes.push(maker.find(Size::Blocks(4_097), |volume| {
         volume.plan.home > 1 && volume.plan.h_fmax > 4_096
     }));
     volumes

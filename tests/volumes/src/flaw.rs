@@ -11,8 +11,7 @@ mod twice;
 
 use crate::block::seal_header;
 use crate::header::{at, Areas, Header, Pointer, MOST_POINTERS};
-use crate::random::Random;
-use crate::shapes::{random_volume, Size};
+use crate::shapes::{Maker, Size};
 use crate::volume::{File, Volume};
 use model::Number;
 
@@ -187,30 +186,21 @@ fn free_run(volume: &Volume, count: u32) -> Option<u32> {
 /// headers, some with homes passed over, one whose N is a multiple of a map block's bits, and one
 /// with numbers in use past the first block of the index map.
 pub fn volumes_to_judge(seed: u64, small: u64) -> Vec<Volume> {
-    let make = |number: u64, size| {
-        let mut random = Random::of_case(seed, "volumes_to_judge", number);
-        random_volume(&mut random, size)
+    let maker = Maker {
+        seed,
+        purpose: "volumes_to_judge",
     };
-    let find = |size, test: fn(&Volume) -> bool| {
-        let mut all = (1_000_000..).map(|number| make(number, size));
-        all.find(test).expect("there is always another one")
-    };
-    let mut volumes: Vec<Volume> = (0..small).map(|number| make(number, Size::Small)).collect();
-    volumes.push(find(Size::Blocks(1_200), |volume| {
-        let chained = volume.file(volume.roles.chained);
-        chained.headers.len() == 256 && volume.unused_number().is_some()
-    }));
-    volumes.push(find(Size::Blocks(1_405), |volume| {
-        volume.plan.home == 1_024
-    }));
-    volumes.push(find(Size::Blocks(900), |volume| {
+    let mut volumes = maker.small(small);
+    volumes.push(maker.longest_chain());
+    volumes.push(maker.find(Size::Blocks(1_405), |volume| volume.plan.home == 1_024));
+    volumes.push(maker.find(Size::Blocks(900), |volume| {
         volume.plan.home == 768 && volume.file(3).headers.len() > 2
     }));
-    volumes.push(find(Size::Blocks(4_096), |volume| volume.plan.home == 512));
-    volumes.push(find(Size::Blocks(4_099), |volume| {
+    volumes.push(maker.find(Size::Blocks(4_096), |volume| volume.plan.home == 512));
+    volumes.push(maker.find(Size::Blocks(4_099), |volume| {
         volume.plan.home == 1 && volume.last_slot() > u32::from(volume.plan.h_fmax)
     }));
-    volumes.push(find(Size::Blocks(13_000), |volume| {
+    volumes.push(maker.find(Size::Blocks(13_000), |volume| {
         volume.headers().any(|header| header.number > 4_096)
     }));
     volumes

@@ -440,6 +440,41 @@ fn leave_old_headers(random: &mut Random, numbers: &[u16], volume: &mut Volume) 
     }
 }
 
+/// Random volumes by number, made for one purpose.
+pub struct Maker {
+    pub seed: u64,
+    pub purpose: &'static str,
+}
+
+impl Maker {
+    /// The volume of a number.
+    fn make(&self, number: u64, size: Size) -> Volume {
+        let mut random = Random::of_case(self.seed, self.purpose, number);
+        random_volume(&mut random, size)
+    }
+
+    /// So many small volumes.
+    pub fn small(&self, count: u64) -> Vec<Volume> {
+        (0..count)
+            .map(|number| self.make(number, Size::Small))
+            .collect()
+    }
+
+    /// The first volume of a size that passes a test.
+    pub fn find(&self, size: Size, test: fn(&Volume) -> bool) -> Volume {
+        let mut all = (1_000_000..).map(|number| self.make(number, size));
+        all.find(test).expect("there is always another one")
+    }
+
+    /// A volume whose chained file has 256 headers, and that has a number not in use.
+    pub fn longest_chain(&self) -> Volume {
+        self.find(Size::Blocks(1_200), |volume| {
+            let chained = volume.file(volume.roles.chained);
+            chained.headers.len() == 256 && volume.unused_number().is_some()
+        })
+    }
+}
+
 #[cfg(test)]
 mod tests {
     use super::*;
