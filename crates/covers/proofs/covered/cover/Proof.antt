@@ -13,10 +13,6 @@ use Rattle.covers.proofs.CoverLaws.{passes, covered-below}
 use borrow.Author.Needs.{needs}
 use Rattle.covers.proofs.covered.cover.Statement.{statement}
 use Rattle.covers.proofs.covered.cover.Tie as tie
-use Rattle.covers.proofs.covered.cover.Reads as reads
-use Rattle.covers.proofs.covered.cover.Lts as lts
-use Rattle.covers.proofs.covered.raise_headers.Reads as raise-headers-reads
-use Rattle.marks.proofs.marks.clear_first.Reads as clear-first-reads
 
 total : (s : tie.Start) → s .args .v .blocks ≡ blocks (now (s .args .image))
 total s = says (now (s .args .image)) (s .args .v) (s .pre .0 .1) .blocks

@@ -19,11 +19,6 @@ use Rattle.covers.proofs.MarkedLaws.{map-marked}
 use borrow.Author.Needs.{needs}
 use Rattle.covers.proofs.covered.map.Statement.{statement}
 use Rattle.covers.proofs.covered.map.Tie as tie
-use Rattle.covers.proofs.covered.map.Reads as reads
-use Rattle.covers.proofs.covered.map.Lts as lts
-use Rattle.image.proofs.blocks.region.Reads as region-reads
-use Rattle.marks.proofs.maps.first_unlike.Reads as first-unlike-reads
-use Rattle.volume.proofs.volume.map_blocks.Reads as map-blocks-reads
 
 module _ (s : tie.Start) where
   abbrev image : List ℕ

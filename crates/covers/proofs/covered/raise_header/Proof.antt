@@ -13,13 +13,6 @@ use Rattle.marks.proofs.MarkLaws.{raisedBy-none, raisedBy-append}
 use borrow.Author.Needs.{needs}
 use Rattle.covers.proofs.covered.raise_header.Statement.{statement}
 use Rattle.covers.proofs.covered.raise_header.Tie as tie
-use Rattle.covers.proofs.covered.raise_header.Reads as reads
-use Rattle.covers.proofs.covered.raise_header.Lts as lts
-use Rattle.header.proofs.pointers.first_pointer.Reads as first-pointer-reads
-use Rattle.header.proofs.pointers.pointer_count.Reads as pointer-count-reads
-use Rattle.header.proofs.pointers.pointer_lbn.Reads as pointer-lbn-reads
-use Rattle.header.proofs.pointers.pointer_number.Reads as pointer-number-reads
-use Rattle.marks.proofs.marks.raise_run.Reads as raise-run-reads
 
 abbrev Inv-loop : tie.InvT-loop
 Inv-loop h area₀ at number p₀ area p = (p ≤ number) × (length area ≡ length area₀) × (area ≡ raisedBy area₀ (runs h at p))

@@ -17,13 +17,6 @@ use Rattle.covers.proofs.CoverLaws.{raised-more}
 use borrow.Author.Needs.{needs}
 use Rattle.covers.proofs.covered.raise_headers.Statement.{statement}
 use Rattle.covers.proofs.covered.raise_headers.Tie as tie
-use Rattle.covers.proofs.covered.raise_headers.Reads as reads
-use Rattle.covers.proofs.covered.raise_headers.Lts as lts
-use Rattle.covers.proofs.covered.raise_number.Reads as raise-number-reads
-use Rattle.image.proofs.bits.bit_at.Reads as bit-at-reads
-use Rattle.image.proofs.blocks.region.Reads as region-reads
-use Rattle.slots.proofs.slots.next_run.Reads as next-run-reads
-use Rattle.slots.proofs.slots.slot_run.Reads as slot-run-reads
 
 abbrev Inv-loop : tie.InvT-loop
 Inv-loop image v area₀ map fmax n₀ run₀ area n run =

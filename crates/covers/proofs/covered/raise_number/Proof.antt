@@ -13,10 +13,6 @@ use Rattle.covers.proofs.CoverLaws.{passes, used-fits, used-ends}
 use borrow.Author.Needs.{needs}
 use Rattle.covers.proofs.covered.raise_number.Statement.{statement}
 use Rattle.covers.proofs.covered.raise_number.Tie as tie
-use Rattle.covers.proofs.covered.raise_number.Reads as reads
-use Rattle.covers.proofs.covered.raise_number.Lts as lts
-use Rattle.covers.proofs.covered.raise_header.Reads as raise-header-reads
-use Rattle.image.proofs.blocks.block.Reads as block-reads
 
 module _ (c : tie.After-block) where
   abbrev s : tie.Start

@@ -14,9 +14,6 @@ use Rattle.covers.proofs.MarkedLaws.{twice-marked}
 use borrow.Author.Needs.{needs}
 use Rattle.covers.proofs.covered.twice.Statement.{statement}
 use Rattle.covers.proofs.covered.twice.Tie as tie
-use Rattle.covers.proofs.covered.twice.Reads as reads
-use Rattle.covers.proofs.covered.twice.Lts as lts
-use Rattle.marks.proofs.marks.first_twice.Reads as first-twice-reads
 
 total : (s : tie.Start) → s .args .v .blocks ≡ blocks (now (s .args .image))
 total s = says (now (s .args .image)) (s .args .v) (s .pre .0 .1) .blocks

@@ -26,12 +26,6 @@ use Rattle.covers.proofs.RaiseLaws.{three-used}
 use borrow.Author.Needs.{needs}
 use Rattle.covers.proofs.homes.bad_home.Statement.{statement}
 use Rattle.covers.proofs.homes.bad_home.Tie as tie
-use Rattle.covers.proofs.homes.bad_home.Reads as reads
-use Rattle.covers.proofs.homes.bad_home.Lts as lts
-use Rattle.covers.proofs.homes.first_unmarked.Reads as first-unmarked-reads
-use Rattle.covers.proofs.homes.raise_chain.Reads as raise-chain-reads
-use Rattle.marks.proofs.marks.lower_first.Reads as lower-first-reads
-use Rattle.volume.proofs.home.position.Reads as position-reads
 
 module _ (s : tie.Start) where
   abbrev image : List ℕ

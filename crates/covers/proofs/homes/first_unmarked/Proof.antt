@@ -16,9 +16,6 @@ use Rattle.covers.proofs.MarkedLaws.{position-most}
 use borrow.Author.Needs.{needs}
 use Rattle.covers.proofs.homes.first_unmarked.Statement.{statement}
 use Rattle.covers.proofs.homes.first_unmarked.Tie as tie
-use Rattle.covers.proofs.homes.first_unmarked.Reads as reads
-use Rattle.covers.proofs.homes.first_unmarked.Lts as lts
-use Rattle.volume.proofs.home.position.Reads as position-reads
 
 abbrev Inv-loop : tie.InvT-loop
 Inv-loop area count i₀ i = (i ≤ count) × (first (unmarked area) 0 count ≡ first (unmarked area) i (count - i))

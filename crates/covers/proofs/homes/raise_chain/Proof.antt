@@ -18,12 +18,6 @@ use Rattle.covers.proofs.RaiseLaws.{Raised, raised-start, raised-long, 
 use borrow.Author.Needs.{needs}
 use Rattle.covers.proofs.homes.raise_chain.Statement.{statement}
 use Rattle.covers.proofs.homes.raise_chain.Tie as tie
-use Rattle.covers.proofs.homes.raise_chain.Reads as reads
-use Rattle.covers.proofs.homes.raise_chain.Lts as lts
-use Rattle.covers.proofs.covered.raise_header.Reads as raise-header-reads
-use Rattle.file.proofs.chains.follow.Reads as follow-reads
-use Rattle.file.proofs.chains.header_of.Reads as header-of-reads
-use Rattle.image.proofs.blocks.block.Reads as block-reads
 
 abbrev Inv-loop : tie.InvT-loop
 Inv-loop image v area₀ h₀ area h = Raised image area₀ area₀ h₀ → Raised image area₀ area h

@@ -4,11 +4,6 @@ use borrow.Author.Tests.{not-true, not-false}
 use Rattle.numbers.specs.Links.{isSingle}
 use Rattle.numbers.proofs.files.is_single.Statement.{statement}
 use Rattle.numbers.proofs.files.is_single.Tie as tie
-use Rattle.numbers.proofs.files.is_single.Reads as reads
-use Rattle.numbers.proofs.files.is_single.Lts as lts
-use Rattle.header.proofs.fields.m_efnu.Reads as m-efnu-reads
-use Rattle.header.proofs.fields.segment.Reads as segment-reads
-use Rattle.image.proofs.blocks.block.Reads as block-reads
 
 returns : tie.Need-returns
 returns c = rw (not-true (c .before .before .args .used) (c .if1 .taken))

@@ -4,10 +4,6 @@ use Rattle.ods1.specs.Judging.{judgedWords}
 use borrow.Author.Needs.{needs}
 use Rattle.ods1.proofs.verdicts.ods1_judge.Statement.{statement}
 use Rattle.ods1.proofs.verdicts.ods1_judge.Tie as tie
-use Rattle.ods1.proofs.verdicts.ods1_judge.Reads as reads
-use Rattle.ods1.proofs.verdicts.ods1_judge.Lts as lts
-use Rattle.ods1.proofs.verdicts.put_judged.Reads as put-judged-reads
-use Rattle.verdict.proofs.judging.judge.Reads as judge-reads
 
 returns : tie.Need-returns
 returns c =

@@ -4,10 +4,6 @@ use Rattle.ods1.specs.Judging.{judgedWords}
 use borrow.Author.Needs.{needs}
 use Rattle.ods1.proofs.verdicts.put_judged.Statement.{statement}
 use Rattle.ods1.proofs.verdicts.put_judged.Tie as tie
-use Rattle.ods1.proofs.verdicts.put_judged.Reads as reads
-use Rattle.ods1.proofs.verdicts.put_judged.Lts as lts
-use Rattle.answer.proofs.words.put_done.Reads as put-done-reads
-use Rattle.answer.proofs.words.put_refused.Reads as put-refused-reads
 
 returns : tie.Need-returns
 returns c = c .put-done .ensures ∙ ap judgedWords (sym (c .before .before .before .judged .given .1))

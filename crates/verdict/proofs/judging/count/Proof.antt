@@ -17,13 +17,6 @@ use Rattle.verdict.proofs.CountingLaws.{claimed-marked, free-read, head
 use borrow.Author.Needs.{needs}
 use Rattle.verdict.proofs.judging.count.Statement.{statement}
 use Rattle.verdict.proofs.judging.count.Tie as tie
-use Rattle.verdict.proofs.judging.count.Reads as reads
-use Rattle.verdict.proofs.judging.count.Lts as lts
-use Rattle.image.proofs.blocks.region.Reads as region-reads
-use Rattle.marks.proofs.maps.count_first_set.Reads as count-first-set-reads
-use Rattle.marks.proofs.maps.count_set.Reads as count-set-reads
-use Rattle.marks.proofs.marks.count_marked.Reads as count-marked-reads
-use Rattle.volume.proofs.volume.map_blocks.Reads as map-blocks-reads
 
 module _ (s : tie.Start) where
   abbrev image : List ℕ

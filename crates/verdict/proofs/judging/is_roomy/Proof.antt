@@ -4,8 +4,6 @@ use borrow.Author.Tests.{le-leb, lt-leb}
 use borrow.Author.Needs.{needs}
 use Rattle.verdict.proofs.judging.is_roomy.Statement.{statement}
 use Rattle.verdict.proofs.judging.is_roomy.Tie as tie
-use Rattle.verdict.proofs.judging.is_roomy.Reads as reads
-use Rattle.verdict.proofs.judging.is_roomy.Lts as lts
 
 returns : tie.Need-returns
 returns c =

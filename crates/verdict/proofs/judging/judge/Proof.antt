@@ -15,10 +15,6 @@ use Rattle.verdict.proofs.PassedLaws.{passed-opens, passed-room, passed
 use borrow.Author.Needs.{needs}
 use Rattle.verdict.proofs.judging.judge.Statement.{statement}
 use Rattle.verdict.proofs.judging.judge.Tie as tie
-use Rattle.verdict.proofs.judging.judge.Reads as reads
-use Rattle.verdict.proofs.judging.judge.Lts as lts
-use Rattle.verdict.proofs.judging.count.Reads as count-reads
-use Rattle.verdict.proofs.judging.judge_volume.Reads as judge-volume-reads
 
 module _ (c : tie.After-enum-told) where
   abbrev judging : tie.After-judge-volume

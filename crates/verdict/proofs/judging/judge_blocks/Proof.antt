@@ -15,12 +15,6 @@ use Rattle.covers.specs.Covered.{covered, twice, map}
 use borrow.Author.Needs.{needs}
 use Rattle.verdict.proofs.judging.judge_blocks.Statement.{statement}
 use Rattle.verdict.proofs.judging.judge_blocks.Tie as tie
-use Rattle.verdict.proofs.judging.judge_blocks.Reads as reads
-use Rattle.verdict.proofs.judging.judge_blocks.Lts as lts
-use Rattle.covers.proofs.covered.cover.Reads as cover-reads
-use Rattle.covers.proofs.covered.map.Reads as map-reads
-use Rattle.covers.proofs.covered.twice.Reads as twice-reads
-use Rattle.covers.proofs.homes.bad_home.Reads as bad-home-reads
 
 module _ (s : tie.Start) where
   abbrev image : List ℕ

@@ -9,11 +9,6 @@ use Rattle.verdict.specs.Verdict.{afterwards}
 use borrow.Author.Needs.{needs}
 use Rattle.verdict.proofs.judging.judge_opened.Statement.{statement}
 use Rattle.verdict.proofs.judging.judge_opened.Tie as tie
-use Rattle.verdict.proofs.judging.judge_opened.Reads as reads
-use Rattle.verdict.proofs.judging.judge_opened.Lts as lts
-use Rattle.numbers.proofs.files.files.Reads as files-reads
-use Rattle.numbers.proofs.links.links.Reads as links-reads
-use Rattle.verdict.proofs.judging.judge_blocks.Reads as judge-blocks-reads
 
 module _ (c : tie.After-enum-told) where
   abbrev filing : tie.After-files

@@ -16,11 +16,6 @@ use Rattle.verdict.proofs.PassedLaws.{roomy-is, passed-opens}
 use borrow.Author.Needs.{needs}
 use Rattle.verdict.proofs.judging.judge_volume.Statement.{statement}
 use Rattle.verdict.proofs.judging.judge_volume.Tie as tie
-use Rattle.verdict.proofs.judging.judge_volume.Reads as reads
-use Rattle.verdict.proofs.judging.judge_volume.Lts as lts
-use Rattle.verdict.proofs.judging.is_roomy.Reads as is-roomy-reads
-use Rattle.verdict.proofs.judging.judge_opened.Reads as judge-opened-reads
-use Rattle.volume.proofs.opening.open.Reads as open-reads
 
 module _ (c : tie.After-enum-told) where
   abbrev opening : tie.After-open
