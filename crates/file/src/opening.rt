@@ -133,7 +133,7 @@ fn open_chain(image: &[u8], v: Volume, id: FileId, lbn: Lbn) -> OpenFile
 }
 
 // Opens a file on an opened volume.
-fn open_on(image: &[u8], v: Volume, id: FileId) -> OpenFile
+pub fn open_on(image: &[u8], v: Volume, id: FileId) -> OpenFile
     requires { ⌜ Open (now image) v ⌝ }
     ensures { λ r. ⌜ Tells (now (image .entry)) id (find (now (image .entry)) id then access (now (image .entry)) id then chained (now (image .entry)) id) r ⌝ }
 {

@@ -1,0 +1,3 @@
+pub mod Fresh
+pub mod Extended
+pub mod Cleared

@@ -1,0 +1,69 @@
+-- What a writer does to an image, as equations between what was read from it before and what is read from it after.
+use mathlib.Core.Path.{_≡_}
+use mathlib.Core.Bool.{true, false}
+use mathlib.Core.List.{List, [], _++_}
+use Prim.Native.Nat.{ℕ, _+_, _≤_, _<_}
+use Rattle.image.specs.Bits.{bitAt}
+use Rattle.image.specs.Stores.{numbersFrom}
+use Rattle.header.specs.Fields.{hFseq, segment, mEfnu, mEfsq}
+use Rattle.header.specs.Pointers.{blocksOf}
+use Rattle.volume.specs.Home.{blocks, position, homeIndex}
+use Rattle.volume.specs.Volume.{ibsz, iblb, fmax, slot, slots, header, faultOf, inUse, mapBlocks, base, storageMap}
+use Rattle.file.specs.Chains.{flat}
+use Rattle.marks.specs.Counts.{count, In}
+use Rattle.covers.specs.Covered.{mapBits}
+use Rattle.sound.specs.Sound.{BlockOf}
+
+-- Block k is no slot of a number of S, none of the index map and none of the storage map: what every writer that writes the slots of S leaves as it was.
+pub record Clear (image : List ℕ) (S : ℕ → Type 0) (k : ℕ) : Type 0 where
+  pub slots : (n : ℕ) → S n → k ≡ slot image n → ⊥
+  pub index : iblb image ≤ k → k < iblb image + ibsz image → ⊥
+  pub storage : base image ≤ k → k < base image + mapBlocks (blocks image) → ⊥
+
+-- What no writer changes, and what then holds of the home positions passed over.
+pub record Fixed (image image′ : List ℕ) : Type 0 where
+  pub blocks : blocks image′ ≡ blocks image
+  pub fmax : fmax image′ ≡ fmax image
+  pub slots : slots image′ ≡ slots image
+  pub passed : (i : ℕ) → i < homeIndex image′ → BlockOf image′ 3 (position i)
+
+-- Number n is in use after, with a whole header of its own that covers nothing and links to nothing.
+pub record Created (image image′ : List ℕ) (n : ℕ) : Type 0 where
+  pub fixed : Fixed image image′
+  pub low : 6 ≤ n
+  pub has : n ≤ slots image
+  pub was : inUse image n ≡ false
+  pub is : inUse image′ n ≡ true
+  pub others : (k : ℕ) → (k ≡ n → ⊥) → inUse image′ k ≡ inUse image k
+  pub headers : (k : ℕ) → inUse image k ≡ true → header image′ k ≡ header image k
+  pub whole : faultOf image′ n ≡ 0
+  pub empty : blocksOf (header image′ n) ≡ []
+  pub unlinked : mEfnu (header image′ n) ≡ 0
+  pub first : segment (header image′ n) ≡ 0
+  pub bits : (j : ℕ) → j < mapBits (blocks image) → bitAt (storageMap image′) j ≡ bitAt (storageMap image) j
+
+-- The header of n, which was in use, covers the c blocks from LBN s on after those that it covered; they were free and are free no longer.
+pub record Extended (image image′ : List ℕ) (n s c : ℕ) : Type 0 where
+  pub fixed : Fixed image image′
+  pub old : inUse image n ≡ true
+  pub used : (k : ℕ) → inUse image′ k ≡ inUse image k
+  pub headers : (k : ℕ) → inUse image k ≡ true → (k ≡ n → ⊥) → header image′ k ≡ header image k
+  pub whole : faultOf image′ n ≡ 0
+  pub more : blocksOf (header image′ n) ≡ blocksOf (header image n) ++ numbersFrom s c
+  pub efnu : mEfnu (header image′ n) ≡ mEfnu (header image n)
+  pub efsq : mEfsq (header image′ n) ≡ mEfsq (header image n)
+  pub fseq : hFseq (header image′ n) ≡ hFseq (header image n)
+  pub seg : segment (header image′ n) ≡ segment (header image n)
+  pub fits : s + c ≤ blocks image
+  pub was : (j : ℕ) → s ≤ j → j < s + c → bitAt (storageMap image) j ≡ 1
+  pub now : (j : ℕ) → s ≤ j → j < s + c → bitAt (storageMap image′) j ≡ 0
+  pub rest : (j : ℕ) → j < mapBits (blocks image) → (s ≤ j → j < s + c → ⊥) → bitAt (storageMap image′) j ≡ bitAt (storageMap image) j
+
+-- The numbers of l are in use no longer, and the blocks that they covered are free.
+pub record Deleted (image image′ : List ℕ) (l : List ℕ) : Type 0 where
+  pub fixed : Fixed image image′
+  pub gone : (k : ℕ) → In k l → inUse image′ k ≡ false
+  pub used : (k : ℕ) → count k l ≡ 0 → inUse image′ k ≡ inUse image k
+  pub headers : (k : ℕ) → inUse image k ≡ true → count k l ≡ 0 → header image′ k ≡ header image k
+  pub now : (j : ℕ) → In j (flat (header image) l) → bitAt (storageMap image′) j ≡ 1
+  pub rest : (j : ℕ) → j < mapBits (blocks image) → count j (flat (header image) l) ≡ 0 → bitAt (storageMap image′) j ≡ bitAt (storageMap image) j

@@ -1,0 +1,4 @@
+pub mod Writes
+pub mod Create
+pub mod Extend
+pub mod Delete
