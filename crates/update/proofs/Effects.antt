@@ -3,22 +3,45 @@ use mathlib.Core.Path.{_≡_}
 use mathlib.Core.Bool.{true, false}
 use mathlib.Core.List.{List, [], _++_}
 use Prim.Native.Nat.{ℕ, _+_, _≤_, _<_}
+use Rattle.image.specs.Words.{Bytes}
+use Rattle.image.specs.Blocks.{block}
 use Rattle.image.specs.Bits.{bitAt}
 use Rattle.image.specs.Stores.{numbersFrom}
+use Rattle.image.proofs.StoreLaws.{Keeps}
 use Rattle.header.specs.Fields.{hFseq, segment, mEfnu, mEfsq}
 use Rattle.header.specs.Pointers.{blocksOf}
 use Rattle.volume.specs.Home.{blocks, position, homeIndex}
 use Rattle.volume.specs.Volume.{ibsz, iblb, fmax, slot, slots, header, faultOf, inUse, mapBlocks, base, storageMap}
-use Rattle.file.specs.Chains.{flat}
+use Rattle.volume.proofs.VolumeLaws.{Opens}
+use Rattle.file.specs.Chains.{chainOf, flat, fileBlocks}
 use Rattle.marks.specs.Counts.{count, In}
 use Rattle.covers.specs.Covered.{mapBits}
-use Rattle.sound.specs.Sound.{BlockOf}
+use Rattle.sound.specs.Sound.{BlockOf, Sound}
 
 -- Block k is no slot of a number of S, none of the index map and none of the storage map: what every writer that writes the slots of S leaves as it was.
 pub record Clear (image : List ℕ) (S : ℕ → Type 0) (k : ℕ) : Type 0 where
   pub slots : (n : ℕ) → S n → k ≡ slot image n → ⊥
   pub index : iblb image ≤ k → k < iblb image + ibsz image → ⊥
   pub storage : base image ≤ k → k < base image + mapBlocks (blocks image) → ⊥
+
+-- An image of bytes that opens and is sound.
+pub record Good (image : List ℕ) : Type 0 where
+  pub bytes : Bytes image
+  pub opens : Opens image
+  pub sound : Sound image
+
+-- A good image is written only in slots of numbers of S, in the index map and in the storage map. S has no known file, and only numbers that have a slot.
+pub record Written (image image′ : List ℕ) (S : ℕ → Type 0) : Type 0 where
+  pub good : Good image
+  pub known : (n : ℕ) → S n → (6 ≤ n) × (n ≤ slots image)
+  pub keeps : Keeps (Clear image S) image image′
+
+-- A file keeps its headers, its blocks and their bytes.
+pub record Kept (image image′ : List ℕ) (f : ℕ) : Type 0 where
+  pub headers : (x : ℕ) → In x (chainOf image f) → header image′ x ≡ header image x
+  pub chain : chainOf image′ f ≡ chainOf image f
+  pub blocks : fileBlocks image′ f ≡ fileBlocks image f
+  pub bytes : (j : ℕ) → In j (fileBlocks image f) → block image′ j ≡ block image j
 
 -- What no writer changes, and what then holds of the home positions passed over.
 pub record Fixed (image image′ : List ℕ) : Type 0 where
