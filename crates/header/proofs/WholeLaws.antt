@@ -1,18 +1,18 @@
 -- What a whole header has.
 use mathlib.Core.Path.{_≡_, refl, ap}
-use mathlib.Core.Bool.{Bool, true, false, not, _||_, and-eq-true-iff}
-use mathlib.Core.List.{List, _∷_}
+use mathlib.Core.Bool.{Bool, true, false, not, _||_, false≢true, and-eq-true-iff}
+use mathlib.Core.List.{List, [], _∷_}
 use Prim.Native.Nat.{ℕ, zero, suc, _+_, _*_, _-_, _%_, _≤_, _<_}
 use native.Mathlib.Numerals.{add-one}
-use native.Mathlib.Decide.{decLt}
+use native.Mathlib.Decide.{ℕ-discrete, decLt}
 use native.Mathlib.Omega.{arith}
-use borrow.Author.Tests.{eqb-true, leb-true, eq-eqb}
+use borrow.Author.Tests.{eqb-true, leb-true, eq-eqb, ne-eqb, le-leb}
 use lib.Dec.{eqb, leb}
 use lib.ListN.{length, getD, List·getD-append}
 use lib.Seq.{getD-append-add}
 use Rattle.image.specs.Words.{wordAt}
 use Rattle.image.specs.Sums.{checksum}
-use Rattle.image.proofs.Below.{below-at}
+use Rattle.image.proofs.Below.{below-at, below-all}
 use Rattle.header.specs.Fields.{hIdof, hMpof, hFnum, hFlev, mapArea, mErvn, mEfnu, mEfsq, mCtsz, mLbsz, mUse, mMax}
 use Rattle.header.specs.Pointers.{pointerLbn, pointerCount, run, runs, pointersAt, pointers, Fits, blocksOf}
 use Rattle.header.specs.Whole.{endsInside, linkTests, mapTests, tests, firstUnmet, fault}
@@ -74,6 +74,40 @@ whole-is blocks n h e =
       unlinked = unlinked-is h (t11 .0);
       ends = λ p l. leb-true _ _ (below-at (pointers h) (endsInside blocks h) (t12 .0) p l);
     }
+
+-- The way back: a row without tests, and a test that is met before a row of which none is unmet.
+all-met-none : (t : ℕ) → firstUnmet t [] ≡ 0
+unfolding firstUnmet
+all-met-none t = refl
+
+all-met-more : (t : ℕ) (b : Bool) (rest : List Bool) → b ≡ true → firstUnmet (t + 1) rest ≡ 0 → firstUnmet t (b ∷ rest) ≡ 0
+unfolding firstUnmet
+all-met-more t true rest e f = f
+all-met-more t false rest e f = absurd (false≢true e)
+
+unlinked-holds : (h : List ℕ) → (mEfnu h ≡ 0 → mEfsq h ≡ 0) → (not (eqb (mEfnu h) 0) || eqb (mEfsq h) 0) ≡ true
+unlinked-holds h f = go (ℕ-discrete (mEfnu h) 0)
+  where
+    go : Dec (mEfnu h ≡ 0) → (not (eqb (mEfnu h) 0) || eqb (mEfsq h) 0) ≡ true
+    go (yes e) = rw (eq-eqb (mEfnu h) 0 e, eq-eqb (mEfsq h) 0 (f e))
+    go (no ne) = rw (ne-eqb (mEfnu h) 0 ne)
+
+pub whole-holds : (blocks n : ℕ) (h : List ℕ) → Whole blocks n h → fault blocks n h ≡ 0
+unfolding fault tests mapTests linkTests endsInside
+whole-holds blocks n h w =
+    let both = and-eq-true-iff (eqb (mUse h % 2) 0) (leb (mUse h) (mMax h)) .1 (eq-eqb (mUse h % 2) 0 (w .even), le-leb (mUse h) (mMax h) (w .filled)) in
+    all-met-more 1 _ _ (eq-eqb (checksum h 255) (wordAt h 510) (w .sum))
+    (all-met-more 2 _ _ (eq-eqb (hFlev h) 257 (w .level))
+    (all-met-more 3 _ _ (eq-eqb (hFnum h) n (w .number))
+    (all-met-more 4 _ _ (le-leb 23 (hIdof h) (w .ident))
+    (all-met-more 5 _ _ (le-leb (hIdof h) (hMpof h) (w .map))
+    (all-met-more 6 _ _ (le-leb (hMpof h + 5 + mMax h) 255 (w .room))
+    (all-met-more 7 _ _ both
+    (all-met-more 8 _ _ (eq-eqb (mCtsz h) 1 (w .ctsz))
+    (all-met-more 9 _ _ (eq-eqb (mLbsz h) 3 (w .lbsz))
+    (all-met-more 10 _ _ (eq-eqb (mErvn h) 0 (w .ervn))
+    (all-met-more 11 _ _ (unlinked-holds h (w .unlinked))
+    (all-met-more 12 _ _ (below-all (pointers h) (endsInside blocks h) (λ p l. le-leb _ _ (w .ends p l))) (all-met-none 13))))))))))))
 
 -- The pointers of a whole header lie in it.
 pub fits-inside : (h : List ℕ) → length h ≡ 512 → hMpof h + 5 + mMax h ≤ 255 → mUse h ≤ mMax h → Fits h

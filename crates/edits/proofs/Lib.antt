@@ -1,0 +1,4 @@
+pub mod ClearedLaws
+pub mod ExtendedLaws
+pub mod FreshLaws
+pub mod SealedLaws
