@@ -29,7 +29,7 @@ pub record LinksSound (image : List ℕ) : Type 0 where
   pub later : (n : ℕ) → inUse image n ≡ true → (segment (header image n) ≡ 0 → ⊥) → OneLink image n
 
 module _ (image : List ℕ) (n : ℕ) where
-  link-is : Tests (goodLink image (header image n)) ((mEfnu (header image n) ≡ 0 → ⊥) → GoodLink image n)
+  pub link-is : Tests (goodLink image (header image n)) ((mEfnu (header image n) ≡ 0 → ⊥) → GoodLink image n)
   unfolding goodLink linksOn isNumber hasSlot
   link-is =
       let h = header image n in

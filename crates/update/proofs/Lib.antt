@@ -1,1 +1,15 @@
 pub mod Effects
+pub mod ChainSame
+pub mod FrameLaws
+pub mod PassedLaws
+pub mod LastLaws
+pub mod SameLaws
+pub mod CreateSound
+pub mod ExtendSound
+pub mod WriteLaws
+pub mod DeleteSound
+pub mod CreateLaws
+pub mod ExtendLaws
+pub mod ClearLaws
+pub mod DeleteLaws
+pub mod DoneLaws

@@ -17,7 +17,7 @@ use Rattle.verdict.specs.Verdict.{verdict, afterwards}
 use Rattle.edits.specs.Fresh.{freshHeader}
 use Rattle.update.specs.declared.answers.Created.{Created}
 use Rattle.update.specs.declared.answers.Created.the-variants.{Done, Refused}
-use Rattle.update.specs.Writes.{putBlock, putMapBits}
+use Rattle.update.specs.Writes.{putBlock, putMapBits, usedBit}
 
 -- 01, Create: "with bit clear, a slot, and word at byte 4 of the slot below 65,535". That word is H.FSEQ.
 unfoldable pub isSpare : List ℕ → ℕ → Bool
@@ -57,7 +57,7 @@ indexBit n = n - 1
 
 -- The image with the header h in the slot of number n, and then the bit of n set. 02, 11/14: "create writes header, then index bit".
 unfoldable pub withNumber : List ℕ → ℕ → List ℕ → List ℕ
-withNumber image n h = putMapBits (putBlock image (slot image n) h) (iblb image) (ibsz image) (indexBit n ∷ []) 1
+withNumber image n h = putMapBits (putBlock image (slot image n) h) (iblb image) (ibsz image) (indexBit n ∷ []) usedBit
 
 -- 01, Create: "Header: .." and "The index bit is set."
 unfoldable pub withFile : List ℕ → Name → ℕ → ℕ → List ℕ

@@ -16,7 +16,7 @@ use Rattle.verdict.specs.Verdict.{verdict, afterwards}
 use Rattle.edits.specs.Cleared.{clearedSlot}
 use Rattle.update.specs.declared.answers.Deleted.{Deleted}
 use Rattle.update.specs.declared.answers.Deleted.the-variants.{Done, Refused}
-use Rattle.update.specs.Writes.{putBlock, putMapBits}
+use Rattle.update.specs.Writes.{putBlock, putMapBits, unusedBit, freeBit}
 use Rattle.update.specs.Create.{indexBit}
 use Rattle.update.specs.Extend.{isKnownNumber}
 
@@ -54,8 +54,8 @@ clearSlots image (k ∷ ks) = clearSlots (putBlock image k (clearedSlot (block i
 unfoldable pub withoutNumbers : List ℕ → List ℕ → List ℕ
 withoutNumbers image ns =
     putMapBits
-    (clearSlots (putMapBits image (iblb image) (ibsz image) (indexBits ns) 0) (slotsOf image ns)) (base image) (mapBlocks (blocks image))
-    (flat (header image) ns) 1
+    (clearSlots (putMapBits image (iblb image) (ibsz image) (indexBits ns) unusedBit) (slotsOf image ns)) (base image) (mapBlocks (blocks image))
+    (flat (header image) ns) freeBit
 
 -- The image after delete. 00, 1: "A refused call changes no byte of the image".
 unfoldable pub deleteImage : List ℕ → FileId → ℕ → ℕ → List ℕ

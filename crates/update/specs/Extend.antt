@@ -19,7 +19,7 @@ use Rattle.edits.specs.Extended.{extendedHeader}
 use Rattle.runs.specs.Runs.{starts, lowestStart}
 use Rattle.update.specs.declared.answers.Extended.{Extended}
 use Rattle.update.specs.declared.answers.Extended.the-variants.{Done, Refused}
-use Rattle.update.specs.Writes.{putBlock, putMapBits}
+use Rattle.update.specs.Writes.{putBlock, putMapBits, takenBit}
 
 -- 01, Answer numbers: "22 KNOWN | extend or delete of 1 to 5".
 unfoldable pub isKnownNumber : ℕ → Bool
@@ -78,7 +78,7 @@ extendAnswer image id c b h = extended (extendOutcome image id c b h) (runStart 
 -- the .. extended header".
 unfoldable pub withBlocks : List ℕ → ℕ → ℕ → ℕ → List ℕ
 withBlocks image n s c =
-    putBlock (putMapBits image (base image) (mapBlocks (blocks image)) (numbersFrom s c) 0) (slot image n) (extendedHeader (header image n) s c)
+    putBlock (putMapBits image (base image) (mapBlocks (blocks image)) (numbersFrom s c) takenBit) (slot image n) (extendedHeader (header image n) s c)
 
 -- The image after extend. 00, 1: "A refused call changes no byte of the image".
 unfoldable pub extendImage : List ℕ → FileId → ℕ → ℕ → ℕ → List ℕ

@@ -11,3 +11,17 @@ putBlock image k b = splice image (512 * k) b
 -- A map lies in the q blocks from LBN k on; each of its bits in the list js made v.
 unfoldable pub putMapBits : List ℕ → ℕ → ℕ → List ℕ → ℕ → List ℕ
 putMapBits image k q js v = splice image (512 * k) (putBits (region image k q) js v)
+
+-- 01, Index file: a number "is in use when index map bit n−1 is set".
+abbrev pub usedBit : ℕ
+usedBit = 1
+
+abbrev pub unusedBit : ℕ
+unusedBit = 0
+
+-- 01, Storage map file: "set means free".
+abbrev pub freeBit : ℕ
+freeBit = 1
+
+abbrev pub takenBit : ℕ
+takenBit = 0

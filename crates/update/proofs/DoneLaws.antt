@@ -1,0 +1,77 @@
+-- A call that meets each test is DONE and changes the image; one that does not changes nothing.
+use mathlib.Core.Path.{_≡_}
+use mathlib.Core.Bool.{true, not}
+use mathlib.Core.List.{List}
+use Prim.Native.Nat.{ℕ, _≤_, _<_}
+use native.Mathlib.Omega.{arith}
+use borrow.Author.Tests.{le-leb}
+use Rattle.answer.specs.declared.types.FileId.{FileId}
+use Rattle.answer.specs.declared.types.Name.{Name}
+use Rattle.answer.specs.declared.refusal.Refusal.{Refusal}
+use Rattle.answer.specs.declared.outcome.Outcome.the-variants.{Passed, Refused}
+use Rattle.answer.specs.Outcome.{unless, _then_}
+use Rattle.radix50.specs.Names.{proper}
+use Rattle.header.specs.Fields.{hFseq}
+use Rattle.volume.specs.Home.{blocks}
+use Rattle.volume.specs.Volume.{fmax, header}
+use Rattle.volume.proofs.VolumeLaws.{opens-all}
+use Rattle.file.specs.Chains.{chainOf}
+use Rattle.file.specs.Opening.{openFile}
+use Rattle.verdict.specs.Verdict.{verdict, afterwards}
+use Rattle.sound.proofs.ExactLaws.{verdict-judges}
+use Rattle.update.specs.Create.{freeNumber, newSequence, createOutcome, withFile, createImage}
+use Rattle.update.specs.Extend.{isKnownNumber, isFixed, isCount, hasRoom, lastNumber, runStart, hasRun, extendOutcome, withBlocks, extendImage}
+use Rattle.update.specs.Delete.{deleteOutcome, withoutNumbers, deleteImage}
+use Rattle.update.proofs.Effects.{Good}
+
+-- The verdict passes a good image, with work areas that are long enough.
+module _ (image : List ℕ) (g : Good image) (b h : ℕ) (room : blocks image ≤ b) (rest : fmax image ≤ h) where
+  judged : verdict image b h ≡ Passed
+  judged = verdict-judges image b h room rest .holds (opens-all image (g .opens), g .sound)
+
+  pub create-done : (name : Name) → proper name ≡ true → freeNumber image ≤ fmax image → createOutcome image name b h ≡ Passed
+  unfolding createOutcome unless _then_
+  create-done name named found = rw (judged, named, le-leb (freeNumber image) (fmax image) found)
+
+  pub extend-done : (id : FileId) (c : ℕ) → openFile image id ≡ Passed → not (isKnownNumber (id .number)) ≡ true → not (isFixed (header image (id .number))) ≡ true
+      → isCount c ≡ true → hasRoom (header image (lastNumber image (id .number))) ≡ true → hasRun image c ≡ true → extendOutcome image id c b h ≡ Passed
+  unfolding extendOutcome unless _then_
+  extend-done id c opened unknown loose counted room run = rw (judged, opened, unknown, loose, counted, room, run)
+
+  pub delete-done : (id : FileId) → openFile image id ≡ Passed → not (isKnownNumber (id .number)) ≡ true → deleteOutcome image id b h ≡ Passed
+  unfolding deleteOutcome unless _then_
+  delete-done id opened unknown = rw (judged, opened, unknown)
+
+-- The sequence of a new file is above the last one of its number.
+pub sequence-above : (image : List ℕ) (n : ℕ) → hFseq (header image n) < newSequence image n
+unfolding newSequence
+sequence-above image n = omega arith
+
+-- The image after each call.
+module _ (image : List ℕ) (name : Name) (owner protection b h : ℕ) where
+  pub create-passes : createOutcome image name b h ≡ Passed → createImage image name owner protection b h ≡ withFile image name owner protection
+  unfolding createImage afterwards
+  create-passes e = rw e
+
+  pub create-refused : (r : Refusal) → createOutcome image name b h ≡ Refused r → createImage image name owner protection b h ≡ image
+  unfolding createImage afterwards
+  create-refused r e = rw e
+
+module _ (image : List ℕ) (id : FileId) (c b h : ℕ) where
+  pub extend-passes : extendOutcome image id c b h ≡ Passed
+      → extendImage image id c b h ≡ withBlocks image (lastNumber image (id .number)) (runStart image c) c
+  unfolding extendImage afterwards
+  extend-passes e = rw e
+
+  pub extend-refused : (r : Refusal) → extendOutcome image id c b h ≡ Refused r → extendImage image id c b h ≡ image
+  unfolding extendImage afterwards
+  extend-refused r e = rw e
+
+module _ (image : List ℕ) (id : FileId) (b h : ℕ) where
+  pub delete-passes : deleteOutcome image id b h ≡ Passed → deleteImage image id b h ≡ withoutNumbers image (chainOf image (id .number))
+  unfolding deleteImage afterwards
+  delete-passes e = rw e
+
+  pub delete-refused : (r : Refusal) → deleteOutcome image id b h ≡ Refused r → deleteImage image id b h ≡ image
+  unfolding deleteImage afterwards
+  delete-refused r e = rw e

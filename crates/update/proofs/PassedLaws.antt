@@ -1,0 +1,119 @@
+-- What is known where no test of a call refuses it.
+use mathlib.Core.Path.{_≡_}
+use mathlib.Core.Bool.{true, false, not, _&&_, and-eq-true-iff}
+use mathlib.Core.List.{List}
+use Prim.Native.Nat.{ℕ, _-_, _≤_, _<_}
+use native.Mathlib.Omega.{arith}
+use borrow.Author.Tests.{leb-true, leb-false, ltb-true, not-true}
+use lib.Dec.{leb, ltb}
+use Rattle.image.proofs.First.{first-has}
+use Rattle.answer.specs.declared.types.FileId.{FileId}
+use Rattle.answer.specs.declared.types.Name.{Name}
+use Rattle.answer.specs.declared.refusal.Refusal.the-variants as refusal
+use Rattle.answer.specs.declared.outcome.Outcome.the-variants.{Passed}
+use Rattle.answer.specs.Outcome.{_then_}
+use Rattle.answer.proofs.OutcomeLaws.{passed-then, passed-first, passed-last}
+use Rattle.radix50.specs.Names.{proper}
+use Rattle.header.specs.Fields.{hFseq}
+use Rattle.volume.specs.Volume.{fmax, slots, hasSlot, header, inUse, isNumber}
+use Rattle.volume.proofs.VolumeLaws.{Opens}
+use Rattle.file.specs.Opening.{openFile}
+use Rattle.file.proofs.OpeningLaws.{Opened, opened}
+use Rattle.verdict.specs.Verdict.{verdict}
+use Rattle.sound.specs.Claims.{IsFile}
+use Rattle.update.specs.Create.{isSpare, freeNumber, createOutcome}
+use Rattle.update.specs.Extend.{isKnownNumber, isFixed, isCount, hasRoom, lastNumber, hasRun, extendOutcome}
+use Rattle.update.specs.Delete.{deleteOutcome}
+
+-- A number that create may take.
+pub record Spare (image : List ℕ) (n : ℕ) : Type 0 where
+  pub unused : inUse image n ≡ false
+  pub has : n ≤ slots image
+  pub word : hFseq (header image n) < 65535
+
+pub spare-is : (image : List ℕ) (n : ℕ) → isSpare image n ≡ true → Spare image n
+unfolding isSpare hasSlot
+spare-is image n t =
+    let both = and-eq-true-iff (not (inUse image n) && leb n (slots image)) (ltb (hFseq (header image n)) 65535) .0 t in
+    let left = and-eq-true-iff (not (inUse image n)) (leb n (slots image)) .0 (both .0) in
+    record {
+      unused = not-true (inUse image n) (left .0);
+      has = leb-true n (slots image) (left .1);
+      word = ltb-true (hFseq (header image n)) 65535 (both .1);
+    }
+
+pub record CreatePassed (image : List ℕ) (name : Name) : Type 0 where
+  pub named : proper name ≡ true
+  pub low : 6 ≤ freeNumber image
+  pub high : freeNumber image ≤ fmax image
+  pub spare : Spare image (freeNumber image)
+
+pub create-passed : (image : List ℕ) (name : Name) (b h : ℕ) → Opens image → createOutcome image name b h ≡ Passed → CreatePassed image name
+unfolding createOutcome freeNumber
+create-passed image name b h o e =
+    let judged = passed-then (verdict image b h) _ e in
+    let named = passed-first (proper name) refusal.Name _ (judged .1) in
+    let high = leb-true (freeNumber image) (fmax image) (passed-last (leb (freeNumber image) (fmax image)) refusal.Nonumber (named .1)) in
+    let is = first-has (isSpare image) 6 (fmax image - 5) in
+    record {
+      named = named .0;
+      low = is .low;
+      high = high;
+      spare = spare-is image (freeNumber image) (is .here (omega (arith, o .enough)));
+    }
+
+-- A file that opens is a file.
+pub opened-file : (image : List ℕ) (id : FileId) → Opened image id → IsFile image (id .number)
+unfolding isNumber
+opened-file image id o = record {
+  used = and-eq-true-iff (inUse image (id .number)) (hasSlot image (id .number)) .0 (o .found .first .0) .0;
+  first = o .found .first .2;
+}
+
+pub not-known : (n : ℕ) → not (isKnownNumber n) ≡ true → 6 ≤ n
+unfolding isKnownNumber
+not-known n t = omega (arith, leb-false n _ (not-true _ t))
+
+pub record DeletePassed (image : List ℕ) (id : FileId) : Type 0 where
+  pub opens : Opened image id
+  pub file : IsFile image (id .number)
+  pub above : 6 ≤ id .number
+
+pub delete-passed : (image : List ℕ) (id : FileId) (b h : ℕ) → deleteOutcome image id b h ≡ Passed → DeletePassed image id
+unfolding deleteOutcome
+delete-passed image id b h e =
+    let judged = passed-then (verdict image b h) _ e in
+    let file = passed-then (openFile image id) _ (judged .1) in
+    let o = opened image id (file .0) in
+    record {
+      opens = o;
+      file = opened-file image id o;
+      above = not-known (id .number) (passed-last (not (isKnownNumber (id .number))) refusal.Known (file .1));
+    }
+
+pub record ExtendPassed (image : List ℕ) (id : FileId) (c : ℕ) : Type 0 where
+  pub opens : Opened image id
+  pub file : IsFile image (id .number)
+  pub above : 6 ≤ id .number
+  pub counted : isCount c ≡ true
+  pub room : hasRoom (header image (lastNumber image (id .number))) ≡ true
+  pub run : hasRun image c ≡ true
+
+pub extend-passed : (image : List ℕ) (id : FileId) (c b h : ℕ) → extendOutcome image id c b h ≡ Passed → ExtendPassed image id c
+unfolding extendOutcome
+extend-passed image id c b h e =
+    let judged = passed-then (verdict image b h) _ e in
+    let file = passed-then (openFile image id) _ (judged .1) in
+    let above = passed-first (not (isKnownNumber (id .number))) refusal.Known _ (file .1) in
+    let loose = passed-first (not (isFixed (header image (id .number)))) refusal.Fixed _ (above .1) in
+    let counted = passed-first (isCount c) refusal.Count _ (loose .1) in
+    let room = passed-first (hasRoom (header image (lastNumber image (id .number)))) refusal.Full _ (counted .1) in
+    let o = opened image id (file .0) in
+    record {
+      opens = o;
+      file = opened-file image id o;
+      above = not-known (id .number) (above .0);
+      counted = counted .0;
+      room = room .0;
+      run = passed-last (hasRun image c) refusal.Run (room .1);
+    }

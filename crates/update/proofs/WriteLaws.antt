@@ -1,0 +1,115 @@
+-- Laws of an image of which a block is written, or the bits of a map that lies in blocks of it.
+use mathlib.Core.Path.{_≡_, sym, ap, _∙_}
+use mathlib.Core.Bool.{and-false}
+use mathlib.Core.List.{List}
+use Prim.Native.Nat.{ℕ, _+_, _*_, _-_, _/_, _≤_, _<_}
+use native.Mathlib.Decide.{decLt}
+use native.Mathlib.Omega.{arith}
+use borrow.Author.Tests.{lt-leb}
+use lib.ListN.{length, getD}
+use Rattle.image.specs.Words.{Bytes}
+use Rattle.image.specs.Blocks.{region, block}
+use Rattle.image.specs.Bits.{bitAt}
+use Rattle.image.specs.Stores.{putBits}
+use Rattle.image.proofs.BlockLaws.{region-length, region-bytes, block-region}
+use Rattle.image.proofs.StoreLaws.{Outside, region-agree, block-agree, splice-bytes, splice-region, splice-block, Keeps, keeps-weaken, keeps-agree, splice-keeps}
+use Rattle.image.proofs.BitLaws.{putBits-agree, Put, putBits-put}
+use Rattle.volume.specs.Volume.{fmax, inUse, indexMap}
+use Rattle.marks.specs.Counts.{count, In}
+use Rattle.marks.proofs.CountLaws.{Found, count-at, count-find}
+use Rattle.update.specs.Writes.{putBlock, putMapBits}
+
+-- A region of kept blocks is the same.
+pub keeps-region : {P : ℕ → Type 0} {b b′ : List ℕ} → Keeps P b b′ → (k q : ℕ) → ((i : ℕ) → k ≤ i → i < k + q → P i) → region b′ k q ≡ region b k q
+keeps-region a k q p = region-agree (keeps-agree a) k q (λ o l. p ((512 * k + o) / 512) (omega arith) (omega arith))
+
+-- A block.
+module _ (image : List ℕ) (k : ℕ) (b : List ℕ) (long : length b ≡ 512) (fits : 512 * (k + 1) ≤ length image) where
+  -- It is read back, and every other block stays.
+  pub putBlock-block : block (putBlock image k b) k ≡ b
+  unfolding putBlock
+  putBlock-block = splice-block image k b long (omega arith)
+
+  pub putBlock-keeps : Keeps (λ i. i ≡ k → ⊥) image (putBlock image k b)
+  unfolding putBlock
+  putBlock-keeps = keeps-weaken (λ i ne low high. ne (omega arith)) (splice-keeps image k 1 b long fits)
+
+  pub putBlock-region : (l q : ℕ) → (l ≤ k → k < l + q → ⊥) → region (putBlock image k b) l q ≡ region image l q
+  putBlock-region l q out = keeps-region putBlock-keeps l q (λ i low high e. out (omega arith) (omega arith))
+
+  pub putBlock-length : length (putBlock image k b) ≡ length image
+  putBlock-length = putBlock-keeps .len
+
+  pub putBlock-bytes : Bytes image → Bytes b → Bytes (putBlock image k b)
+  unfolding putBlock
+  putBlock-bytes bytes news = splice-bytes (512 * k) (omega arith) bytes news
+
+-- Bits of the map in the q blocks from LBN k on.
+module _ (image : List ℕ) (k q : ℕ) (js : List ℕ) (v : ℕ) (fits : 512 * (k + q) ≤ length image) where
+  long : length (putBits (region image k q) js v) ≡ 512 * q
+  long = putBits-agree js (region image k q) v .len ∙ region-length image k q fits
+
+  -- The map is read back with the bits put, and every block outside it stays.
+  pub putMapBits-map : region (putMapBits image k q js v) k q ≡ putBits (region image k q) js v
+  unfolding putMapBits
+  putMapBits-map = splice-region image k q (putBits (region image k q) js v) long (omega arith)
+
+  pub putMapBits-outside : Keeps (Outside k q) image (putMapBits image k q js v)
+  unfolding putMapBits
+  putMapBits-outside = splice-keeps image k q (putBits (region image k q) js v) long fits
+
+  pub putMapBits-region : (l p : ℕ) → ((i : ℕ) → l ≤ i → i < l + p → Outside k q i) → region (putMapBits image k q js v) l p ≡ region image l p
+  putMapBits-region = keeps-region putMapBits-outside
+
+  pub putMapBits-length : length (putMapBits image k q js v) ≡ length image
+  putMapBits-length = putMapBits-outside .len
+
+  -- So does a block of the map that holds none of the bits.
+  pub putMapBits-keeps : Keeps (λ i. (j : ℕ) → In j js → i ≡ k + j / 4096 → ⊥) image (putMapBits image k q js v)
+  putMapBits-keeps = record { len = putMapBits-length; same = λ i out. go i out (decLt i k) (decLt i (k + q)) }
+    where
+      inside : (i : ℕ) → k ≤ i → i < k + q → ((j : ℕ) → In j js → i ≡ k + j / 4096 → ⊥) → block (putMapBits image k q js v) i ≡ block image i
+      inside i low high out =
+          let e : k + (i - k) ≡ i = omega arith in
+          ap (block (putMapBits image k q js v)) (sym e)
+          ∙ sym (block-region (putMapBits image k q js v) k q (i - k) (omega arith))
+          ∙ ap (λ (m : List ℕ). block m (i - k)) putMapBits-map
+          ∙ block-agree (putBits-agree js (region image k q) v) (i - k) (λ o l p h at. out (getD js p 0) (count-at js p h) (omega arith))
+          ∙ block-region image k q (i - k) (omega arith)
+          ∙ ap (block image) e
+
+      go : (i : ℕ) → ((j : ℕ) → In j js → i ≡ k + j / 4096 → ⊥) → Dec (i < k) → Dec (i < k + q) → block (putMapBits image k q js v) i ≡ block image i
+      go i out (yes l) d = putMapBits-outside .same i (λ low high. omega arith)
+      go i out (no l) (no h) = putMapBits-outside .same i (λ low high. h high)
+      go i out (no l) (yes h) = inside i (omega arith) h out
+
+  -- The bits that were put are v, and the others are as they were.
+  module _ (isBit : v < 2) (bytes : Bytes image) (small : (j : ℕ) → In j js → j < 4096 * q) where
+    put : Put (region image k q) js v
+    put =
+        putBits-put js (region image k q) v isBit (region-bytes image k q bytes)
+        (λ p l. omega (arith, region-length image k q fits, small (getD js p 0) (count-at js p l)))
+
+    pub putMapBits-bytes : Bytes (putMapBits image k q js v)
+    unfolding putMapBits
+    putMapBits-bytes = splice-bytes (512 * k) (omega (arith, long)) bytes (put .bytes)
+
+    pub putMapBits-bit : (j : ℕ) → In j js → bitAt (region (putMapBits image k q js v) k q) j ≡ v
+    putMapBits-bit j m =
+        let f : Found j js = count-find j js m in
+        rw (putMapBits-map, ← f .here) (put .inside (f .at) (f .inside))
+
+    pub putMapBits-rest : (j : ℕ) → count j js ≡ 0 → bitAt (region (putMapBits image k q js v) k q) j ≡ bitAt (region image k q) j
+    putMapBits-rest j none =
+        rw putMapBits-map (put .outside j (λ p l e. omega (arith, rw e at (count-at js p l))))
+
+-- Which numbers are in use, where H.FMAX is the same: by the bits of the index map.
+pub used-same : (image image′ : List ℕ) → fmax image′ ≡ fmax image → (k : ℕ)
+    → (1 ≤ k → k ≤ fmax image → bitAt (indexMap image′) (k - 1) ≡ bitAt (indexMap image) (k - 1)) → inUse image′ k ≡ inUse image k
+unfolding inUse
+used-same image image′ e k bits = go (decLt 0 k) (decLt (fmax image) k)
+  where
+    go : Dec (0 < k) → Dec (fmax image < k) → inUse image′ k ≡ inUse image k
+    go (no l) d = rw (lt-leb 1 k (omega arith))
+    go (yes l) (yes h) = rw (e, lt-leb k (fmax image) h, and-false)
+    go (yes l) (no h) = rw (e, bits l (omega arith))
