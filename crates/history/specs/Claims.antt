@@ -6,9 +6,9 @@ use Prim.Native.Nat.{ℕ, _≤_, _<_}
 use lib.ListN.{length, getD}
 use Rattle.image.specs.Words.{Bytes}
 use Rattle.image.specs.Blocks.{block}
-use Rattle.header.specs.Fields.{hFseq, segment}
+use Rattle.header.specs.Fields.{hFseq}
 use Rattle.volume.specs.Home.{blocks}
-use Rattle.volume.specs.Volume.{fmax, header, inUse}
+use Rattle.volume.specs.Volume.{fmax, header}
 use Rattle.file.specs.Chains.{fileBlocks}
 use Rattle.verdict.specs.Verdict.{verdictAnswer}
 use Rattle.sound.specs.Claims.{isDone, IsFile}
@@ -18,9 +18,13 @@ use Rattle.history.specs.Calls.{Call, run, Words, Names, Each}
 abbrev pub Accepted : List ℕ → Type 0
 Accepted image = (area headers : List ℕ) → blocks image ≤ length area → fmax image ≤ length headers → isDone (verdictAnswer image area headers) ≡ true
 
+-- 01, Demand 3: "The known files are numbers 1 to 5."
+abbrev pub lastKnown : ℕ
+lastKnown = 5
+
 -- 00, 3: "Every file numbered above 5 that was in use at the start with a header of segment 0, and that no extend or delete of the list names".
 pub record Protected (image : List ℕ) (calls : List Call) (f : ℕ) : Type 0 where
-  pub above : 5 < f
+  pub above : lastKnown < f
   pub file : IsFile image f
   pub unnamed : Each (λ call. Names call f (hFseq (header image f)) → ⊥) calls
 

@@ -5,7 +5,6 @@ use Prim.Native.Nat.{ℕ, _+_, _/_, _≤_, _<_}
 use lib.ListN.{length}
 use Rattle.image.specs.Words.{Bytes}
 use Rattle.image.specs.Blocks.{block}
-use Rattle.image.specs.Stores.{numbersFrom}
 use Rattle.answer.specs.declared.refusal.Refusal.{Refusal}
 use Rattle.answer.specs.declared.outcome.Outcome.the-variants.{Passed, Refused}
 use Rattle.header.specs.Fields.{hFseq}

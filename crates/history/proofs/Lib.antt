@@ -1,0 +1,9 @@
+pub mod Step
+pub mod OpenLaws
+pub mod CreateStep
+pub mod ExtendStep
+pub mod DeleteStep
+pub mod StepLaws
+pub mod ListLaws
+pub mod GoneLaws
+pub mod ReadBackLaws
