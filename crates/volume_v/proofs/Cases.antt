@@ -1,12 +1,18 @@
--- The worked cases, each computed.
-use mathlib.Core.Path.{refl}
+-- The worked cases, each computed. That the volume is accepted is computed once for both cases of extend.
+use mathlib.Core.Path.{_≡_, refl, _∙_}
+use mathlib.Core.Bool.{not}
+use Prim.Native.Nat.{ℕ}
 use Rattle.image.specs.First.{first, below}
 use Rattle.image.specs.Words.{wordAt}
 use Rattle.image.specs.Blocks.{region, block}
 use Rattle.image.specs.Bits.{bitOf, bitAt}
 use Rattle.image.specs.Sums.{wordSum, checksum}
 use Rattle.image.specs.Stores.{zeros, numbersFrom}
+use Rattle.answer.specs.declared.refusal.Refusal.the-variants as refusal
+use Rattle.answer.specs.declared.outcome.Outcome.{Outcome}
+use Rattle.answer.specs.declared.outcome.Outcome.the-variants.{Passed, Refused}
 use Rattle.answer.specs.Outcome.{unless, _then_}
+use Rattle.answer.proofs.OutcomeLaws.{then-passed}
 use Rattle.radix50.specs.Table.{charOf, hasChar, codeOf}
 use Rattle.radix50.specs.Words.{wordOf, charactersOf}
 use Rattle.text.specs.Parse.{codeAt, partWord}
@@ -14,14 +20,54 @@ use Rattle.header.specs.Fields.{hIdof, hMpof, hFnum, hFseq, hFlev, userFlags, s
 use Rattle.header.specs.Pointers.{pointerLbn, pointerCount, run, runs, pointersAt, pointers, blocksOf}
 use Rattle.header.specs.Whole.{endsInside, linkTests, mapTests, tests, firstUnmet, fault}
 use Rattle.volume.specs.Home.{hIbsz, hIblb, hFmax, hSbcl, hVlev, label, labelAt, isHome, blocks, position, positions, homeAt, homeIndex, home}
-use Rattle.volume.specs.Volume.{ibsz, iblb, fmax, indexHeader, index, slot, slots, hasSlot, header, faultOf, indexMap, inUse, isNumber, mapBlocks}
+use Rattle.volume.specs.Volume.{ibsz, iblb, fmax, indexHeader, index, slot, slots, hasSlot, header, faultOf, indexMap, inUse, isNumber, mapBlocks, base, storageMap}
 use Rattle.volume.specs.Opening.{sized, homed, indexMapBlocks, geometry, alone, indexLbn, indexAt, indexMapped, indexed, storageMapped, stored, openVolume}
 use Rattle.file.specs.Chains.{linksOn, goodLink, chain, chainOf, every, linkOf, goodChain, flat, fileBlocks}
 use Rattle.file.specs.Opening.{find, hasFlag, locked, access, chained, openFile}
 use Rattle.file.specs.Mapping.{hasVbn, lbnOf, findVbn, mapped, mapAnswer}
+use Rattle.marks.specs.Marks.{isSet}
+use Rattle.verdict.specs.Verdict.{verdict}
+use Rattle.runs.specs.Runs.{isFree, isRun, starts, lowestStart}
+use Rattle.update.specs.declared.answers.Extended.the-variants as answers
+use Rattle.update.specs.Extend.{isKnownNumber, isFixed, isCount, hasRoom, lastOf, lastNumber, runStart, hasRun, extendOutcome, extended, extendAnswer}
 use Rattle.volume_v.specs.VolumeV.{words, join, homeBlock, indexMapBlock, headerBlock, endOfFile, storageMapBlock, directoryBlock, volumeV}
 use Rattle.volume_v.specs.Cases.{Cases, reads, dat, twoWords, file6}
+use Rattle.volume_v.proofs.Judged.{computed}
+
+-- What extend comes to once the volume is judged.
+abbrev rest : ℕ → Outcome
+rest c =
+    openFile volumeV file6
+    then unless (not (isKnownNumber (file6 .number))) refusal.Known
+    then unless (not (isFixed (header volumeV (file6 .number)))) refusal.Fixed
+    then unless (isCount c) refusal.Count
+    then unless (hasRoom (header volumeV (lastNumber volumeV (file6 .number)))) refusal.Full
+    then unless (hasRun volumeV c) refusal.Run
+
+outcome : (c : ℕ) → extendOutcome volumeV file6 c 100 16 ≡ rest c
+unfolding extendOutcome
+outcome c = then-passed (verdict volumeV 100 16) (rest c) computed
+
+passes-4 : rest 4 ≡ Passed
+unfolding first checksum wordSum wordAt zeros below region block bitOf bitAt numbersFrom unless _then_ hIdof hMpof hFnum hFseq hFlev userFlags systemFlags mapArea segment mErvn mEfnu mEfsq mCtsz mLbsz mUse mMax pointerLbn pointerCount run runs pointersAt pointers blocksOf endsInside linkTests mapTests tests firstUnmet fault hIbsz hIblb hFmax hSbcl hVlev label labelAt isHome blocks position positions homeAt homeIndex home ibsz iblb fmax indexHeader index slot slots hasSlot header faultOf indexMap inUse isNumber mapBlocks sized homed indexMapBlocks geometry alone indexLbn indexAt indexMapped indexed storageMapped stored openVolume linksOn goodLink chain chainOf every linkOf goodChain flat fileBlocks find hasFlag locked access chained openFile words join homeBlock indexMapBlock headerBlock endOfFile storageMapBlock directoryBlock volumeV file6 base storageMap isSet isFree isRun starts lowestStart isKnownNumber isFixed isCount hasRoom lastOf lastNumber runStart hasRun
+passes-4 = refl
+
+starts-4 : runStart volumeV 4 ≡ 26
+unfolding first checksum wordSum wordAt zeros below region block bitOf bitAt numbersFrom unless _then_ hIdof hMpof hFnum hFseq hFlev userFlags systemFlags mapArea segment mErvn mEfnu mEfsq mCtsz mLbsz mUse mMax pointerLbn pointerCount run runs pointersAt pointers blocksOf endsInside linkTests mapTests tests firstUnmet fault hIbsz hIblb hFmax hSbcl hVlev label labelAt isHome blocks position positions homeAt homeIndex home ibsz iblb fmax indexHeader index slot slots hasSlot header faultOf indexMap inUse isNumber mapBlocks sized homed indexMapBlocks geometry alone indexLbn indexAt indexMapped indexed storageMapped stored openVolume linksOn goodLink chain chainOf every linkOf goodChain flat fileBlocks find hasFlag locked access chained openFile words join homeBlock indexMapBlock headerBlock endOfFile storageMapBlock directoryBlock volumeV file6 base storageMap isSet isFree isRun starts lowestStart isKnownNumber isFixed isCount hasRoom lastOf lastNumber runStart hasRun
+starts-4 = refl
+
+refuses-68 : rest 68 ≡ Refused refusal.Run
+unfolding first checksum wordSum wordAt zeros below region block bitOf bitAt numbersFrom unless _then_ hIdof hMpof hFnum hFseq hFlev userFlags systemFlags mapArea segment mErvn mEfnu mEfsq mCtsz mLbsz mUse mMax pointerLbn pointerCount run runs pointersAt pointers blocksOf endsInside linkTests mapTests tests firstUnmet fault hIbsz hIblb hFmax hSbcl hVlev label labelAt isHome blocks position positions homeAt homeIndex home ibsz iblb fmax indexHeader index slot slots hasSlot header faultOf indexMap inUse isNumber mapBlocks sized homed indexMapBlocks geometry alone indexLbn indexAt indexMapped indexed storageMapped stored openVolume linksOn goodLink chain chainOf every linkOf goodChain flat fileBlocks find hasFlag locked access chained openFile words join homeBlock indexMapBlock headerBlock endOfFile storageMapBlock directoryBlock volumeV file6 base storageMap isSet isFree isRun starts lowestStart isKnownNumber isFixed isCount hasRoom lastOf lastNumber runStart hasRun
+refuses-68 = refl
+
+extend-4-is : extendAnswer volumeV file6 4 100 16 ≡ answers.Done (record { 0 = 26 })
+unfolding extendAnswer extended
+extend-4-is = rw (outcome 4 ∙ passes-4, starts-4)
+
+extend-68-is : extendAnswer volumeV file6 68 100 16 ≡ answers.Refused refusal.Run
+unfolding extendAnswer extended
+extend-68-is = rw (outcome 68 ∙ refuses-68)
 
 pub cases : Cases
 unfolding reads dat twoWords partWord codeAt codeOf first hasChar charOf wordOf charactersOf checksum wordSum wordAt zeros below region block bitOf bitAt numbersFrom unless _then_ hIdof hMpof hFnum hFseq hFlev userFlags systemFlags mapArea segment mErvn mEfnu mEfsq mCtsz mLbsz mUse mMax pointerLbn pointerCount run runs pointersAt pointers blocksOf endsInside linkTests mapTests tests firstUnmet fault hIbsz hIblb hFmax hSbcl hVlev label labelAt isHome blocks position positions homeAt homeIndex home ibsz iblb fmax indexHeader index slot slots hasSlot header faultOf indexMap inUse isNumber mapBlocks sized homed indexMapBlocks geometry alone indexLbn indexAt indexMapped indexed storageMapped stored openVolume linksOn goodLink chain chainOf every linkOf goodChain flat fileBlocks find hasFlag locked access chained openFile hasVbn lbnOf findVbn mapped mapAnswer words join homeBlock indexMapBlock headerBlock endOfFile storageMapBlock directoryBlock volumeV file6
-cases = record { reads-is = refl; dat-is = refl; nines = refl; above = refl; sum = refl; fmax-4096 = refl; fmax-4097 = refl; vbn-2 = refl; vbn-3 = refl; vbn-4 = refl }
+cases = record { reads-is = refl; dat-is = refl; nines = refl; above = refl; sum = refl; fmax-4096 = refl; fmax-4097 = refl; vbn-2 = refl; vbn-3 = refl; vbn-4 = refl; extend-4 = extend-4-is; extend-68 = extend-68-is }

@@ -1,4 +1,4 @@
--- The worked cases that 01, "Volume V", marks P: one statement. It has the cases whose definitions exist.
+-- The worked cases that 01, "Volume V", marks P: one statement.
 use mathlib.Core.Path.{_≡_}
 use mathlib.Core.List.{List, [], _∷_}
 use Prim.Native.Nat.{ℕ}
@@ -12,6 +12,8 @@ use Rattle.text.specs.Parse.{partWord}
 use Rattle.volume.specs.Opening.{indexMapBlocks}
 use Rattle.file.specs.declared.mapping.Mapped.the-variants as mapped
 use Rattle.file.specs.Mapping.{mapAnswer}
+use Rattle.update.specs.declared.answers.Extended.the-variants as extended
+use Rattle.update.specs.Extend.{extendAnswer}
 use Rattle.volume_v.specs.VolumeV.{volumeV}
 
 -- 01, Volume V: the texts "READS" and "DAT".
@@ -50,3 +52,7 @@ pub record Cases : Type 0 where
   pub vbn-3 : mapAnswer volumeV file6 3 ≡ mapped.Done (record { 0 = 25 })
   -- "VBN 4 refused (P)"
   pub vbn-4 : mapAnswer volumeV file6 4 ≡ mapped.Refused refusal.Vbn
+  -- "Extend by 4 takes 26 (P)". Here and below the work areas have N and H.FMAX bytes: 100 and 16.
+  pub extend-4 : extendAnswer volumeV file6 4 100 16 ≡ extended.Done (record { 0 = 26 })
+  -- "by 68 is RUN (P)"
+  pub extend-68 : extendAnswer volumeV file6 68 100 16 ≡ extended.Refused refusal.Run

@@ -1,45 +1,9 @@
--- The verdict on Volume V, computed; that it is sound follows, since the verdict accepts nothing else.
-use mathlib.Core.Path.{_≡_, refl}
-use Prim.Native.Nat.{_≤_}
+-- Volume V is accepted by the verdict as computed; that it is sound follows, since the verdict accepts nothing else.
 use native.Mathlib.Omega.{arith}
-use Rattle.answer.specs.declared.outcome.Outcome.the-variants.{Passed}
-use Rattle.image.specs.First.{first, below}
-use Rattle.image.specs.Words.{wordAt}
-use Rattle.image.specs.Blocks.{region, block}
-use Rattle.image.specs.Bits.{bitOf, bitAt}
-use Rattle.image.specs.Sums.{wordSum, checksum}
-use Rattle.image.specs.Stores.{zeros, numbersFrom}
-use Rattle.answer.specs.Outcome.{unless, _then_}
-use Rattle.header.specs.Fields.{hIdof, hMpof, hFnum, hFseq, hFlev, userFlags, systemFlags, mapArea, segment, mErvn, mEfnu, mEfsq, mCtsz, mLbsz, mUse, mMax}
-use Rattle.header.specs.Pointers.{pointerLbn, pointerCount, run, runs, pointersAt, pointers, blocksOf}
-use Rattle.header.specs.Whole.{endsInside, linkTests, mapTests, tests, firstUnmet, fault}
-use Rattle.volume.specs.Home.{hIbsz, hIblb, hFmax, hSbcl, hVlev, label, labelAt, isHome, blocks, position, positions, homeAt, homeIndex, home}
-use Rattle.volume.specs.Volume.{ibsz, iblb, fmax, indexHeader, index, slot, slots, hasSlot, header, faultOf, indexMap, inUse, isNumber, mapBlocks, base, storageMap}
-use Rattle.volume.specs.Opening.{sized, homed, indexMapBlocks, geometry, alone, indexLbn, indexAt, indexMapped, indexed, storageMapped, stored, openVolume}
-use Rattle.file.specs.Chains.{linksOn, goodLink, chain, chainOf, every, linkOf, goodChain, flat, fileBlocks}
-use Rattle.volume_v.specs.VolumeV.{words, join, homeBlock, indexMapBlock, headerBlock, endOfFile, storageMapBlock, directoryBlock, volumeV}
-use Rattle.marks.specs.Counts.{oneIf, count, howMany}
-use Rattle.slots.specs.Slots.{gathered}
-use Rattle.numbers.specs.Files.{isKnown, badFile, filesPlace, files}
-use Rattle.numbers.specs.Links.{linkOf as linkList, linked, linksWanted, badLinks, linksPlace, links}
-use Rattle.covers.specs.Covered.{covered, coveredTwice, twicePlace, twice, mapBits, wrongBit, mapPlace, map}
-use Rattle.covers.specs.Homes.{leftOut, badHomeIndex, badHome}
-use Rattle.verdict.specs.Verdict.{roomy, ready, verdict}
 use Rattle.sound.proofs.ExactLaws.{exact, verdict-judges}
+use Rattle.volume_v.specs.VolumeV.{volumeV}
+use Rattle.volume_v.proofs.Judged.{size, numbers, computed}
 use Rattle.witness.specs.Witness.{Accepted}
-
--- N, H.FMAX and the verdict.
-size : blocks volumeV ≡ 100
-unfolding first below wordAt region block bitOf bitAt wordSum checksum zeros numbersFrom unless _then_ hIdof hMpof hFnum hFseq hFlev userFlags systemFlags mapArea segment mErvn mEfnu mEfsq mCtsz mLbsz mUse mMax pointerLbn pointerCount run runs pointersAt pointers blocksOf endsInside linkTests mapTests tests firstUnmet fault hIbsz hIblb hFmax hSbcl hVlev label labelAt isHome blocks position positions homeAt homeIndex home ibsz iblb fmax indexHeader index slot slots hasSlot header faultOf indexMap inUse isNumber mapBlocks base storageMap sized homed indexMapBlocks geometry alone indexLbn indexAt indexMapped indexed storageMapped stored openVolume linksOn goodLink chain chainOf every linkOf goodChain flat fileBlocks words join homeBlock indexMapBlock headerBlock endOfFile storageMapBlock directoryBlock volumeV count gathered isKnown badFile filesPlace files linkList linked linksWanted badLinks linksPlace links covered coveredTwice twicePlace twice mapBits wrongBit mapPlace map leftOut badHomeIndex badHome roomy ready verdict
-size = refl
-
-numbers : fmax volumeV ≡ 16
-unfolding first below wordAt region block bitOf bitAt wordSum checksum zeros numbersFrom unless _then_ hIdof hMpof hFnum hFseq hFlev userFlags systemFlags mapArea segment mErvn mEfnu mEfsq mCtsz mLbsz mUse mMax pointerLbn pointerCount run runs pointersAt pointers blocksOf endsInside linkTests mapTests tests firstUnmet fault hIbsz hIblb hFmax hSbcl hVlev label labelAt isHome blocks position positions homeAt homeIndex home ibsz iblb fmax indexHeader index slot slots hasSlot header faultOf indexMap inUse isNumber mapBlocks base storageMap sized homed indexMapBlocks geometry alone indexLbn indexAt indexMapped indexed storageMapped stored openVolume linksOn goodLink chain chainOf every linkOf goodChain flat fileBlocks words join homeBlock indexMapBlock headerBlock endOfFile storageMapBlock directoryBlock volumeV count gathered isKnown badFile filesPlace files linkList linked linksWanted badLinks linksPlace links covered coveredTwice twicePlace twice mapBits wrongBit mapPlace map leftOut badHomeIndex badHome roomy ready verdict
-numbers = refl
-
-computed : verdict volumeV 100 16 ≡ Passed
-unfolding first below wordAt region block bitOf bitAt wordSum checksum zeros numbersFrom unless _then_ hIdof hMpof hFnum hFseq hFlev userFlags systemFlags mapArea segment mErvn mEfnu mEfsq mCtsz mLbsz mUse mMax pointerLbn pointerCount run runs pointersAt pointers blocksOf endsInside linkTests mapTests tests firstUnmet fault hIbsz hIblb hFmax hSbcl hVlev label labelAt isHome blocks position positions homeAt homeIndex home ibsz iblb fmax indexHeader index slot slots hasSlot header faultOf indexMap inUse isNumber mapBlocks base storageMap sized homed indexMapBlocks geometry alone indexLbn indexAt indexMapped indexed storageMapped stored openVolume linksOn goodLink chain chainOf every linkOf goodChain flat fileBlocks words join homeBlock indexMapBlock headerBlock endOfFile storageMapBlock directoryBlock volumeV count gathered isKnown badFile filesPlace files linkList linked linksWanted badLinks linksPlace links covered coveredTwice twicePlace twice mapBits wrongBit mapPlace map leftOut badHomeIndex badHome roomy ready verdict
-computed = refl
 
 pub accepted : Accepted
 accepted =
