@@ -1,0 +1,53 @@
+-- Laws of create: what its tests come to, and what it answers and leaves where they refuse.
+use mathlib.Core.Path.{_≡_}
+use mathlib.Core.Bool.{true, false}
+use mathlib.Core.List.{List}
+use Prim.Native.Nat.{ℕ, _≤_, _<_}
+use borrow.Author.Tests.{le-leb, lt-leb}
+use Rattle.answer.specs.declared.refusal.Refusal.the-variants as refusal
+use Rattle.answer.specs.declared.refusal.Refusal.{Refusal}
+use Rattle.answer.specs.declared.outcome.Outcome.{Outcome}
+use Rattle.answer.specs.declared.outcome.Outcome.the-variants as outcome
+use Rattle.answer.specs.declared.types.FileId.{FileId}
+use Rattle.answer.specs.declared.types.Name.{Name}
+use Rattle.answer.specs.Outcome.{unless, _then_}
+use Rattle.answer.proofs.OutcomeLaws.{then-passed, then-refused}
+use Rattle.radix50.specs.Names.{proper}
+use Rattle.volume.specs.Volume.{fmax}
+use Rattle.verdict.specs.Verdict.{verdict, afterwards}
+use Rattle.update.specs.declared.answers.Created.the-variants.{Refused}
+use Rattle.update.specs.Create.{freeNumber, createOutcome, created}
+use Rattle.create.specs.Tests.{createTests}
+
+-- The tests, in their order.
+module _ (image : List ℕ) (name : Name) where
+  pub tests-improper : proper name ≡ false → createTests image name ≡ outcome.Refused refusal.Name
+  unfolding createTests unless _then_
+  tests-improper e = rw e
+
+  pub tests-none : proper name ≡ true → fmax image < freeNumber image → createTests image name ≡ outcome.Refused refusal.Nonumber
+  unfolding createTests unless _then_
+  tests-none e l = rw (e, lt-leb (freeNumber image) (fmax image) l)
+
+  pub tests-passed : proper name ≡ true → freeNumber image ≤ fmax image → createTests image name ≡ outcome.Passed
+  unfolding createTests unless _then_
+  tests-passed e l = rw (e, le-leb (freeNumber image) (fmax image) l)
+
+-- What is answered and left where the tests refuse.
+pub answer-refused : (o : Outcome) (r : Refusal) (id : FileId) → o ≡ outcome.Refused r → Refused r ≡ created o id
+unfolding created
+answer-refused o r id e = rw e
+
+pub image-refused : (o : Outcome) (r : Refusal) (old new : List ℕ) → o ≡ outcome.Refused r → old ≡ afterwards o old new
+unfolding afterwards
+image-refused o r old new e = rw e
+
+-- The verdict comes first.
+module _ (image : List ℕ) (name : Name) (b h : ℕ) where
+  pub judged-refused : (r : Refusal) → verdict image b h ≡ outcome.Refused r → createOutcome image name b h ≡ outcome.Refused r
+  unfolding createOutcome
+  judged-refused r e = then-refused (verdict image b h) _ r e
+
+  pub judged-passed : verdict image b h ≡ outcome.Passed → createOutcome image name b h ≡ createTests image name
+  unfolding createOutcome createTests
+  judged-passed e = then-passed (verdict image b h) _ e

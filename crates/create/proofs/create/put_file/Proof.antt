@@ -1,0 +1,88 @@
+-- The number that was found has a slot with a word below 65,535; the slot and the index map lie inside the image.
+use borrow.Author.Needs.{needs}
+use mathlib.Core.Path.{_≡_, sym, ap, _∙_}
+use mathlib.Core.List.{List}
+use native.Mathlib.Omega.{arith}
+use Prim.Native.Nat.{ℕ, _<_}
+use denote.Ref.{now}
+use Rattle.header.specs.Fields.{hFseq}
+use Rattle.volume.specs.Volume.{fmax, slot, header}
+use Rattle.volume.specs.Opening.{indexMapBlocks, Laid}
+use Rattle.volume.proofs.VolumeLaws.{Opens, opens, says, slot-below}
+use Rattle.slots.proofs.SlotLaws.{stands-read, opened-fmax}
+use Rattle.update.specs.Create.{newId, newSequence, withNumber, withFile}
+use Rattle.create.proofs.SpareLaws.{Spare, free-spare, slot-stands}
+use Rattle.create.proofs.create.put_file.Statement.{statement}
+use Rattle.create.proofs.create.put_file.Tie as tie
+
+module _ (k : tie.After-slice-known) where
+  abbrev image : List ℕ
+  image = now (k .before .args .image)
+
+  abbrev n : ℕ
+  n = k .before .args .n
+
+  laid : Laid image (k .before .args .v)
+  laid = says image (k .before .args .v) (k .before .pre .0 .1)
+
+  most : (k .before .args .v .fmax ≡ fmax image) × (k .before .args .v .fmax < 65536)
+  most = opened-fmax image (k .before .args .v) (k .before .pre .0) (record { each = λ i. omega (arith, k .slice-known .given i) })
+
+  spare : Spare image n
+  spare = free-spare image n (k .before .pre .1) (omega (arith, most))
+
+  opened : Opens image
+  opened = opens image (k .before .pre .0 .0)
+
+module _ (h : tie.After-h-fseq) where
+  abbrev k : tie.After-slice-known
+  k = h .before .before .before .before .before
+
+  abbrev stands : tie.After-slot-run
+  stands = h .before .before .before
+
+  word : h .h-fseq .result ≡ hFseq (header (image k) (n k))
+  word = h .h-fseq .ensures ∙ ap hFseq (h .before .block .ensures ∙ stands-read (image k) (n k) _ (stands .slot-run .ensures) (spare k .slotted))
+
+  lbn : stands .slot-run .result .lbn .0 ≡ slot (image k) (n k)
+  lbn = sym (slot-stands (image k) (n k) _ (stands .slot-run .ensures) (spare k .slotted))
+
+slot-run-requires : tie.Need-slot-run-requires
+slot-run-requires c κs = (c .before .before .pre .0, omega (arith, most (c .before), c .before .before .pre .2))
+
+cast-t16 : tie.Need-cast-t16
+cast-t16 c = omega (arith, most (k c))
+
+add-t17 : tie.Need-add-t17
+add-t17 c = omega (arith, word c, spare (k c) .word)
+
+put-header-requires : tie.Need-put-header-requires
+put-header-requires c κs =
+    let h = c .before in
+    omega (arith, lbn h, slot-below (opened (k h)) (n (k h)) (omega (arith, spare (k h) .low)) (spare (k h) .slotted), opened (k h) .size)
+
+set-index-bit-requires : tie.Need-set-index-bit-requires
+unfolding indexMapBlocks
+set-index-bit-requires c κs =
+    let p = c .before .before .before in
+    let q = k (p .before .before) in
+    let v = laid q in (
+      omega (arith, spare q .low),
+      omega (arith, most q, v .ibsz, opened q .maps),
+      omega (arith, p .put-header .kept .0, v .iblb, v .ibsz, opened q .fits, opened q .size),
+    )
+
+returns : tie.Need-returns
+unfolding newId newSequence withFile withNumber
+returns c =
+    let f = c .before .before in
+    let p = f .before .before .before .before in
+    let h = p .before .before in
+    let e = k h .before .pre .1 in
+    let v = laid (k h) in
+    (rw (word h, ← e), rw (f .set-index-bit .ensures, p .put-header .ensures, ← e, ← lbn h, ← word h, ← v .iblb, ← v .ibsz))
+
+pub put-file-spec : {M : Type 1} → statement M
+put-file-spec =
+    tie.close
+    (tie.spec slot-run-requires (search needs) (search needs) cast-t16 add-t17 put-header-requires set-index-bit-requires (search needs) returns)

@@ -1,0 +1,110 @@
+// Create.
+use crate::spare::free_number;
+use answer::outcome::Outcome;
+use answer::refusal::Refusal;
+use answer::types::FileId;
+use answer::types::FileNumber;
+use answer::types::Lbn;
+use answer::types::Name;
+use edits::fresh::put_fresh;
+use header::fields::h_fseq;
+use image::bits::put_bit;
+use image::blocks::block;
+use radix50::is_proper;
+use slots::slots::slot_run;
+use update::answers::Created;
+use verdict::judging::judge_volume;
+use volume::volume::Volume;
+ghost use mathlib.Core.Path.{_≡_};
+ghost use mathlib.Core.List.{[], _∷_};
+ghost use Prim.Native.Nat.{_+_, _*_, _≤_};
+ghost use lib.ListN.{length};
+ghost use Rattle.volume.specs.Opening.{Open};
+ghost use Rattle.verdict.specs.Verdict.{afterwards, headerMarks, blockMarks};
+ghost use Rattle.edits.specs.Fresh.{freshHeader};
+ghost use Rattle.update.specs.Writes.{putBlock, putMapBits};
+ghost use Rattle.update.specs.Create.{freeNumber, newId, created, createAnswer, indexBit, withFile, createImage};
+ghost use Rattle.create.specs.Tests.{createTests};
+
+// The block with an LBN made the header of a new file.
+fn put_header(image: &mut [u8], lbn: Lbn, id: FileId, owner: u16, protection: u16, name: Name)
+    requires { ⌜ 512 * lbn .0 + 512 ≤ length (now image) ⌝ }
+    ensures { λ _. ⌜ now (image .exit) ≡ putBlock (now (image .entry)) (lbn .0) (freshHeader (id .number) (id .sequence) owner protection name) ⌝ }
+{
+    let from = 512 * (lbn.0 as usize);
+    let to = from + 512;
+    put_fresh(
+        &mut image[from..to],
+        id.number,
+        id.sequence,
+        owner,
+        protection,
+        name,
+    );
+}
+
+// The bit of number n set in the index map.
+fn set_index_bit(image: &mut [u8], v: Volume, n: u32)
+    requires { ⌜ (1 ≤ n) × (n ≤ 4096 * v .ibsz) × (512 * (v .iblb + v .ibsz) ≤ length (now image)) ⌝ }
+    ensures { λ _. ⌜ now (image .exit) ≡ putMapBits (now (image .entry)) (v .iblb) (v .ibsz) (indexBit n ∷ []) 1 ⌝ }
+{
+    let from = 512 * (v.iblb as usize);
+    let to = from + 512 * (v.ibsz as usize);
+    put_bit(&mut image[from..to], (n - 1) as usize, 1);
+}
+
+// A new file under the number n: its header in the slot of n, and then the index bit of n.
+fn put_file(image: &mut [u8], v: Volume, n: u32, name: Name, owner: u16, protection: u16) -> FileId
+    requires { ⌜ Open (now image) v × (n ≡ freeNumber (now image)) × (n ≤ v .fmax) ⌝ }
+    ensures { λ r. ⌜ (r ≡ newId (now (image .entry))) × (now (image .exit) ≡ withFile (now (image .entry)) name owner protection) ⌝ }
+{
+    let run = slot_run(image, v, FileNumber(n));
+    let word = h_fseq(block(image, run.lbn.0));
+    let id = FileId {
+        number: n as u16,
+        sequence: word + 1,
+        volume: 0,
+    };
+    put_header(image, run.lbn, id, owner, protection, name);
+    set_index_bit(image, v, n);
+    id
+}
+
+// Create on a volume that is judged already: NAME, NONUMBER, and then the file. It asks no more of the image than that it opens.
+pub fn create_on(image: &mut [u8], v: Volume, name: Name, owner: u16, protection: u16) -> Created
+    requires { ⌜ Open (now image) v ⌝ }
+    ensures { λ r. ⌜ (r ≡ created (createTests (now (image .entry)) name) (newId (now (image .entry))))
+        × (now (image .exit) ≡ afterwards (createTests (now (image .entry)) name) (now (image .entry)) (withFile (now (image .entry)) name owner protection)) ⌝ }
+{
+    let good = is_proper(name);
+    if !good {
+        return Created::Refused(Refusal::Name);
+    }
+    let n = free_number(image, v);
+    if v.fmax < n {
+        return Created::Refused(Refusal::Nonumber);
+    }
+    Created::Done(put_file(image, v, n, name, owner, protection))
+}
+
+// Create. The marks are those of the image before it.
+pub fn create(
+    image: &mut [u8],
+    name: Name,
+    owner: u16,
+    protection: u16,
+    area: &mut [u8],
+    headers: &mut [u8],
+) -> Created
+    ensures { λ r. ⌜ (r ≡ createAnswer (now (image .entry)) name (length (now (area .entry))) (length (now (headers .entry))))
+        × (now (image .exit) ≡ createImage (now (image .entry)) name owner protection (length (now (area .entry))) (length (now (headers .entry))))
+        × (now (area .exit) ≡ blockMarks (now (image .entry)) (now (area .entry)) (now (headers .entry)))
+        × (now (headers .exit) ≡ headerMarks (now (image .entry)) (now (area .entry)) (now (headers .entry))) ⌝ }
+{
+    let j = judge_volume(image, area, headers);
+    let outcome = j.outcome;
+    match outcome {
+        Outcome::Passed => create_on(image, j.volume, name, owner, protection),
+        Outcome::Refused(r) => Created::Refused(r),
+    }
+}
