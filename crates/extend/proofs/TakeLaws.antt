@@ -1,0 +1,79 @@
+-- What storing needs, of an image that is sound and passes extend's tests.
+use mathlib.Core.Path.{_≡_}
+use mathlib.Core.Bool.{true, and-eq-true-iff}
+use mathlib.Core.List.{List, [], _∷_}
+use Prim.Native.Nat.{ℕ, _+_, _≤_, _<_}
+use native.Mathlib.Omega.{arith}
+use borrow.Author.Tests.{leb-true}
+use Rattle.image.specs.Blocks.{block}
+use Rattle.image.specs.Stores.{numbersFrom}
+use Rattle.answer.specs.declared.types.FileId.{FileId}
+use Rattle.header.specs.Fields.{mUse, mMax}
+use Rattle.header.proofs.WholeLaws.{whole-is}
+use Rattle.volume.specs.Home.{blocks}
+use Rattle.volume.specs.Volume.{slot, header, faultOf, inUse, hasSlot, isNumber, mapBlocks, base}
+use Rattle.volume.proofs.VolumeLaws.{Opens, slot-below, base-fits}
+use Rattle.file.specs.Chains.{chainOf}
+use Rattle.marks.specs.Counts.{In}
+use Rattle.marks.proofs.CountLaws.{count-none}
+use Rattle.slots.proofs.SlotLaws.{used-range}
+use Rattle.sound.proofs.MemberLaws.{in-here, in-tail, chain-head}
+use Rattle.sound.proofs.ChainLaws.{member-used}
+use Rattle.edits.specs.Extended.{extendedHeader}
+use Rattle.update.specs.Writes.{putBlock, putMapBits}
+use Rattle.update.specs.Extend.{hasRoom, lastOf, lastNumber, runStart, withBlocks}
+use Rattle.update.proofs.Effects.{Good}
+use Rattle.update.proofs.FrameLaws.{slot-clear}
+use Rattle.update.proofs.WriteLaws.{putMapBits-outside}
+use Rattle.update.proofs.ExtendLaws.{count-range, run-fits}
+use Rattle.extend.specs.Tests.{Takes}
+use Rattle.extend.proofs.TestLaws.{Passes}
+
+-- The last of a list that has a member is a member.
+last-in : (n : ℕ) (l : List ℕ) (x : ℕ) → In x l → In (lastOf n l) l
+unfolding lastOf
+last-in n [] x m = absurd (omega (arith, count-none x))
+last-in n (y ∷ []) x m = in-here y []
+last-in n (y ∷ z ∷ l) x m = in-tail (lastOf z l) y (z ∷ l) (last-in y (z ∷ l) z (in-here z l))
+
+module _ (image : List ℕ) (g : Good image) (id : FileId) (c : ℕ) (p : Passes image id c) where
+  abbrev n : ℕ
+  n = id .number
+
+  abbrev last : ℕ
+  last = lastNumber image n
+
+  used : inUse image n ≡ true
+  unfolding isNumber
+  used = and-eq-true-iff (inUse image n) (hasSlot image n) .0 (p .opens .found .first .0) .0
+
+  last-used : inUse image last ≡ true
+  unfolding lastNumber chainOf
+  last-used = member-used image (g .sound) n (record { used = used; first = p .opens .found .first .2 }) last (last-in n (chainOf image n) n (chain-head (header image) 255 n))
+
+  pub takes : Takes image (slot image last) (runStart image c) c
+  unfolding hasRoom header faultOf
+  takes =
+      let high = g .sound .slotted last last-used in
+      let low = used-range image last last-used .0 in
+      record {
+        inside = slot-below (g .opens) last low high;
+        apart = slot-clear image g last low high .storage;
+        area = whole-is (blocks image) last (header image last) (g .sound .whole last last-used) .room;
+        room = leb-true (mUse (header image last) + 2) (mMax (header image last)) (p .room);
+        least = count-range c (p .counted) .0;
+        most = count-range c (p .counted) .1;
+        fits = run-fits image c (p .run);
+      }
+
+-- A block off the storage map is as it was once the map is stored.
+pub taken-block : (image : List ℕ) → Opens image → (k : ℕ) → (base image ≤ k → k < base image + mapBlocks (blocks image) → ⊥) → (s c v : ℕ)
+    → block (putMapBits image (base image) (mapBlocks (blocks image)) (numbersFrom s c) v) k ≡ block image k
+taken-block image o k out s c v =
+    putMapBits-outside image (base image) (mapBlocks (blocks image)) (numbersFrom s c) v (omega (arith, o .size, base-fits o)) .same k out
+
+-- The stores are those of the definition.
+pub taken : (image : List ℕ) (n s c k t : ℕ) → k ≡ slot image n → t ≡ s
+    → putBlock (putMapBits image (base image) (mapBlocks (blocks image)) (numbersFrom t c) 0) k (extendedHeader (block image k) t c) ≡ withBlocks image n s c
+unfolding withBlocks header
+taken image n s c k t e f = rw (e, f)

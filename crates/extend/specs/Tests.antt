@@ -1,0 +1,42 @@
+-- What extend asks of a volume that is judged, and what its stores need.
+use mathlib.Core.Bool.{not}
+use mathlib.Core.List.{List}
+use Prim.Native.Nat.{ℕ, _+_, _≤_, _<_}
+use Rattle.image.specs.Blocks.{block}
+use Rattle.answer.specs.declared.types.FileId.{FileId}
+use Rattle.answer.specs.declared.refusal.Refusal.the-variants as refusal
+use Rattle.answer.specs.declared.outcome.Outcome.{Outcome}
+use Rattle.answer.specs.declared.outcome.Outcome.the-variants as outcome
+use Rattle.answer.specs.Outcome.{unless, _then_}
+use Rattle.header.specs.Fields.{hMpof, mUse, mMax}
+use Rattle.volume.specs.Home.{blocks}
+use Rattle.volume.specs.Volume.{header, mapBlocks, base}
+use Rattle.file.specs.Opening.{openFile}
+use Rattle.update.specs.Extend.{isKnownNumber, isFixed, isCount, hasRoom, lastNumber, hasRun}
+use Rattle.extend.specs.declared.plan.Plan.{Plan}
+use Rattle.extend.specs.declared.plan.Plan.the-variants as plan
+
+-- 01, Answer numbers: "6 to 12; then by number", of which extend has 22 to 26. Those of extend's tests that come after the verdict.
+unfoldable pub extendTests : List ℕ → FileId → ℕ → Outcome
+extendTests image id c =
+    openFile image id
+    then unless (not (isKnownNumber (id .number))) refusal.Known
+    then unless (not (isFixed (header image (id .number)))) refusal.Fixed
+    then unless (isCount c) refusal.Count
+    then unless (hasRoom (header image (lastNumber image (id .number)))) refusal.Full
+    then unless (hasRun image c) refusal.Run
+
+-- What tests come to: where they are passed, the LBN of the file's last header and the first of the new blocks.
+unfoldable pub planned : Outcome → ℕ → ℕ → Plan
+planned outcome.Passed last lbn = plan.To (record { 0 = last }) (record { 0 = lbn })
+planned (outcome.Refused r) last lbn = plan.Refused r
+
+-- The header at LBN k has room for a pointer and lies off the storage map, and the c blocks from LBN s on lie on the volume.
+pub record Takes (image : List ℕ) (k s c : ℕ) : Type 0 where
+  pub inside : k < blocks image
+  pub apart : base image ≤ k → k < base image + mapBlocks (blocks image) → ⊥
+  pub area : hMpof (block image k) + 5 + mMax (block image k) ≤ 255
+  pub room : mUse (block image k) + 2 ≤ mMax (block image k)
+  pub least : 1 ≤ c
+  pub most : c ≤ 256
+  pub fits : s + c ≤ blocks image

@@ -1,0 +1,48 @@
+// Extend.
+use crate::plan::Plan;
+use crate::plan::plan_on;
+use crate::stores::take;
+use answer::outcome::Outcome;
+use answer::types::FileId;
+use update::answers::Extended;
+use verdict::judging::judge_volume;
+use volume::volume::Volume;
+ghost use mathlib.Core.Path.{_≡_};
+ghost use lib.ListN.{length};
+ghost use Rattle.volume.specs.Opening.{Open};
+ghost use Rattle.verdict.specs.Verdict.{afterwards, headerMarks, blockMarks};
+ghost use Rattle.sound.specs.Sound.{Sound};
+ghost use Rattle.update.specs.Extend.{lastNumber, runStart, extended, extendAnswer, withBlocks, extendImage};
+ghost use Rattle.extend.specs.Tests.{extendTests};
+
+// Extend on a volume that is judged.
+pub fn extend_on(image: &mut [u8], v: Volume, id: FileId, c: u32) -> Extended
+    requires { ⌜ Open (now image) v × Sound (now image) ⌝ }
+    ensures { λ r. ⌜ (r ≡ extended (extendTests (now (image .entry)) id c) (runStart (now (image .entry)) c))
+        × (now (image .exit) ≡ afterwards (extendTests (now (image .entry)) id c) (now (image .entry)) (withBlocks (now (image .entry)) (lastNumber (now (image .entry)) (id .number)) (runStart (now (image .entry)) c) c)) ⌝ }
+{
+    let plan = plan_on(image, v, id, c);
+    match plan {
+        Plan::To(last, lbn) => {
+            take(image, v, last, lbn, c);
+            Extended::Done(lbn)
+        }
+        Plan::Refused(r) => Extended::Refused(r),
+    }
+}
+
+// Extends a file by c blocks. The marks are those of the image before it.
+pub fn extend(image: &mut [u8], id: FileId, c: u32, area: &mut [u8], headers: &mut [u8]) -> Extended
+    ensures { λ r. ⌜ (r ≡ extendAnswer (now (image .entry)) id c (length (now (area .entry))) (length (now (headers .entry))))
+        × (now (image .exit) ≡ extendImage (now (image .entry)) id c (length (now (area .entry))) (length (now (headers .entry))))
+        × (now (area .exit) ≡ blockMarks (now (image .entry)) (now (area .entry)) (now (headers .entry)))
+        × (now (headers .exit) ≡ headerMarks (now (image .entry)) (now (area .entry)) (now (headers .entry))) ⌝ }
+{
+    let judged = judge_volume(image, area, headers);
+    let result = judged.outcome;
+    let v = judged.volume;
+    match result {
+        Outcome::Passed => extend_on(image, v, id, c),
+        Outcome::Refused(r) => Extended::Refused(r),
+    }
+}
