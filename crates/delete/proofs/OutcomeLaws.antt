@@ -1,0 +1,63 @@
+-- What delete answers and leaves, by what its tests come to.
+use mathlib.Core.Path.{_≡_, refl, ap, _∙_}
+use mathlib.Core.Bool.{true, false, not}
+use mathlib.Core.List.{List}
+use Prim.Native.Nat.{ℕ, _≤_, _<_}
+use native.Mathlib.Omega.{arith}
+use borrow.Author.Tests.{le-leb, lt-leb}
+use Rattle.answer.specs.declared.types.FileId.{FileId}
+use Rattle.answer.specs.declared.refusal.Refusal.{Refusal}
+use Rattle.answer.specs.declared.refusal.Refusal.the-variants as refusal
+use Rattle.answer.specs.declared.outcome.Outcome.{Outcome}
+use Rattle.answer.specs.declared.outcome.Outcome.the-variants.{Passed, Refused}
+use Rattle.answer.specs.Outcome.{unless, _then_}
+use Rattle.answer.proofs.OutcomeLaws.{then-passed, then-refused}
+use Rattle.volume.specs.Opening.{openVolume}
+use Rattle.file.specs.Chains.{chainOf}
+use Rattle.file.specs.Opening.{find, access, chained, openFile}
+use Rattle.verdict.specs.Verdict.{verdict, afterwards}
+use Rattle.update.specs.declared.answers.Deleted.the-variants as answers
+use Rattle.update.specs.Extend.{isKnownNumber}
+use Rattle.update.specs.Delete.{deleteOutcome, deleted, deleteAnswer, withoutNumbers, deleteImage}
+use Rattle.delete.specs.Deleting.{deleteTests}
+
+module _ (image : List ℕ) (id : FileId) where
+  abbrev without : List ℕ
+  without = withoutNumbers image (chainOf image (id .number))
+
+  -- Opening a file on a volume that opens.
+  pub open-row : openVolume image ≡ Passed → openFile image id ≡ (find image id then access image id then chained image id)
+  unfolding openFile
+  open-row o = then-passed (openVolume image) (find image id then access image id then chained image id) o
+
+  -- The tests on a volume that is judged.
+  pub tests-refused : (r : Refusal) → openFile image id ≡ Refused r → deleteTests image id ≡ Refused r
+  unfolding deleteTests
+  tests-refused r e = then-refused (openFile image id) _ r e
+
+  pub tests-known : openFile image id ≡ Passed → id .number ≤ 5 → deleteTests image id ≡ Refused refusal.Known
+  unfolding deleteTests unless isKnownNumber
+  tests-known e h = then-passed (openFile image id) _ e ∙ rw (le-leb (id .number) 5 h)
+
+  pub tests-passed : openFile image id ≡ Passed → 5 < id .number → deleteTests image id ≡ Passed
+  unfolding deleteTests unless isKnownNumber
+  tests-passed e h = then-passed (openFile image id) _ e ∙ rw (lt-leb (id .number) 5 h)
+
+  -- What they come to.
+  pub answer-refused : (o : Outcome) (r : Refusal) → o ≡ Refused r → (answers.Refused r ≡ deleted o) × (image ≡ afterwards o image without)
+  unfolding deleted afterwards
+  answer-refused o r e = (rw e, rw e)
+
+  pub answer-done : (o : Outcome) (after : List ℕ) → o ≡ Passed → after ≡ without → (answers.Done ≡ deleted o) × (after ≡ afterwards o image without)
+  unfolding deleted afterwards
+  answer-done o after e f = (rw e, rw e f)
+
+  -- Before them, the verdict.
+  module _ (b h : ℕ) where
+    pub judged-refused : (r : Refusal) → verdict image b h ≡ Refused r → (answers.Refused r ≡ deleteAnswer image id b h) × (image ≡ deleteImage image id b h)
+    unfolding deleteAnswer deleteImage deleteOutcome
+    judged-refused r e = answer-refused (deleteOutcome image id b h) r (then-refused (verdict image b h) _ r e)
+
+    pub judged-passed : verdict image b h ≡ Passed → deleteOutcome image id b h ≡ deleteTests image id
+    unfolding deleteOutcome deleteTests
+    judged-passed e = then-passed (verdict image b h) _ e

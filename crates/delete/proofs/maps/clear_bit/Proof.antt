@@ -1,0 +1,19 @@
+-- The part that is lent is the map.
+use mathlib.Core.List.{[], _∷_}
+use Prim.Native.Nat.{_+_, _*_, _-_}
+use native.Mathlib.Omega.{arith}
+use denote.Ref.{now}
+use Rattle.image.specs.Stores.{putBits}
+use borrow.Author.Needs.{needs}
+use Rattle.delete.proofs.StepLaws.{part-bits}
+use Rattle.delete.proofs.maps.clear_bit.Statement.{statement}
+use Rattle.delete.proofs.maps.clear_bit.Tie as tie
+
+returns : tie.Need-returns
+unfolding putBits
+returns c =
+    let a = c .before .before .before .before .before .args in
+    part-bits (now (a .image)) (a .k) (a .q) (omega arith) (512 * a .k + 512 * a .q - 512 * a .k) (a .j ∷ []) 0 _ (omega arith) (c .before .before .put-bit .ensures)
+
+pub clear-bit-spec : {M : Type 1} → statement M
+clear-bit-spec = tie.close (tie.spec (search needs) (search needs) (search needs) (search needs) (search needs) (search needs) (search needs) (search needs) returns)
