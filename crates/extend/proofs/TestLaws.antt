@@ -123,6 +123,11 @@ module _ (o : Outcome) (last lbn : ℕ) where
       go outcome.Passed g = rw g (refl, refl, refl)
       go (outcome.Refused r) g = rw g refl
 
+-- The plan that was made for the header at LBN k, where that is the last.
+pub planned-at : (image : List ℕ) (c lbn : ℕ) (o : Outcome) (last k : ℕ) (p : Plan) → o ≡ rooms image last c → p ≡ planned (rooms image k c) k lbn → k ≡ last
+    → p ≡ planned o last lbn
+planned-at image c lbn o last k p q e f = rw (q, ← f) e
+
 -- Opening a file on a volume that opens.
 module _ (image : List ℕ) (id : FileId) (o : openVolume image ≡ outcome.Passed) where
   abbrev pub finding : Outcome

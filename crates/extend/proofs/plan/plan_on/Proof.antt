@@ -2,17 +2,16 @@
 use mathlib.Core.Path.{_≡_, sym, ap, _∙_}
 use mathlib.Core.List.{List}
 use Prim.Native.Nat.{ℕ}
+use native.Mathlib.Omega.{arith}
 use denote.Ref.{now}
 use borrow.Author.Needs.{needs}
 use Rattle.image.specs.Blocks.{block}
-use Rattle.answer.specs.declared.outcome.Outcome.{Outcome}
 use Rattle.answer.specs.declared.outcome.Outcome.the-variants as outcome
 use Rattle.volume.specs.Volume.{slot, header}
 use Rattle.file.proofs.OpeningLaws.{Opened, opened}
-use Rattle.update.specs.Extend.{lastNumber, runStart}
+use Rattle.update.specs.Extend.{runStart}
 use Rattle.update.proofs.ExtendLaws.{count-range}
-use Rattle.extend.specs.Tests.{planned}
-use Rattle.extend.proofs.TestLaws.{admits, admits-count, rooms, finding, finding-is, tests-opening, tests-admits, tests-rooms, planned-refused}
+use Rattle.extend.proofs.TestLaws.{admits, admits-count, finding, finding-is, tests-opening, tests-admits, tests-rooms, planned-refused, planned-at}
 use Rattle.extend.proofs.plan.plan_on.Statement.{statement}
 use Rattle.extend.proofs.plan.plan_on.Tie as tie
 
@@ -68,10 +67,8 @@ returns c =
     let e = l .before .before in
     let t = e .before .before .before .before in
     let a = start t .args in
-    let s = runStart (image t) (a .c) in
-    c .find-run .ensures
-    ∙ ap (λ (k : ℕ). planned (rooms (image t) k (a .c)) k s) (l .last-slot .ensures)
-    ∙ ap (λ (o : Outcome). planned o (slot (image t) (lastNumber (image t) (n t))) s) (sym (tests-rooms (image t) (a .id) (start t .pre .0) (a .c) (passed t) (admitted e)))
+    planned-at (image t) (a .c) (runStart (image t) (a .c)) _ _ _ _ (tests-rooms (image t) (a .id) (start t .pre .0) (a .c) (passed t) (admitted e)) (c .find-run .ensures)
+    (omega (arith, l .last-slot .ensures))
 
 returns-2 : tie.Need-returns-2
 returns-2 c =
