@@ -4,6 +4,8 @@
 //! that what disturbs one disturbs the other. A line of the table gives the median time of a call
 //! on each side, and the ratio library/Rust: below 1 the library is faster. The verdict is also held
 //! against reading the headers in use and both maps once and nothing more, eight bytes at a time.
+//! Create, extend and delete judge the volume first: beside each of their lines there is one of the
+//! verdict on the same volume.
 //!
 //! The Rust side is built as the default release profile builds it, without the overflow checks
 //! that the tests have, and the library's calls go through the checking wrappers that the tests
@@ -11,6 +13,7 @@
 
 #![forbid(unsafe_code)]
 
+mod changes;
 mod plain;
 mod volumes_to_judge;
 
@@ -482,6 +485,23 @@ fn main() {
     let volume = volumes_to_judge::largest();
     judge("verdict, 1,044,480 blocks, 28,910 headers", &volume, 28_910);
     drop(volume);
+    let volume = volumes_to_judge::rl02_with_room();
+    judge(
+        "verdict, RL02, 2,000 files, free in one piece",
+        &volume,
+        2_005,
+    );
+    let name = "create, extend, delete, the same";
+    changes::change(name, volumes_to_judge::rl02_with_room);
+    let volume = volumes_to_judge::rl02_with_broken_room();
+    judge("verdict, RL02, 2,000 files, 4,000 holes", &volume, 2_005);
+    let name = "create, extend, delete, the same";
+    changes::change(name, volumes_to_judge::rl02_with_broken_room);
+    let volume = volumes_to_judge::largest_with_room();
+    judge("verdict, 1,044,480 blocks, 28,810 headers", &volume, 28_810);
+    drop(volume);
+    let name = "create, extend, delete, the same";
+    changes::change(name, volumes_to_judge::largest_with_room);
     judge_sizes(
         "verdict by N, 4,096 headers",
         &[65_280, 130_560, 261_120, 522_240, 1_044_480],

@@ -1,5 +1,8 @@
-//! The reading calls and the verdict in plain Rust: the same work as the exported calls do, on
-//! slices, without allocation and without proofs. Each call opens the volume anew, as theirs do.
+//! The calls in plain Rust: the same work as the exported calls do, on slices, without allocation
+//! and without proofs. Each call opens the volume anew, as theirs do; those that change an image,
+//! which are in [`writing`], judge it first.
+
+pub mod writing;
 
 /// An answer as the exported calls write it: number, place, ten value words.
 pub type Answer = [u64; 12];
@@ -242,12 +245,17 @@ impl<'a> Volume<'a> {
         self.index_map()[bit / 8] >> (bit % 8) & 1 == 1
     }
 
-    /// The block of a number's slot, if it is in use and has one.
-    fn slot(&self, number: u16) -> Option<&'a [u8; BLOCK]> {
+    /// The LBN of a number's slot, if it is in use and has one.
+    fn slot_lbn(&self, number: u16) -> Option<u32> {
         if number == 0 || number > self.h_fmax || !self.in_use(number.into()) {
             return None;
         }
-        let lbn = self.index.lbn(1 + self.m + u32::from(number)).ok()?;
+        self.index.lbn(1 + self.m + u32::from(number)).ok()
+    }
+
+    /// The block of a number's slot, if it is in use and has one.
+    fn slot(&self, number: u16) -> Option<&'a [u8; BLOCK]> {
+        let lbn = self.slot_lbn(number)?;
         Some(block(self.image, lbn))
     }
 
@@ -466,6 +474,22 @@ pub fn judge(image: &[u8], blocks: &mut [u8], headers: &mut [u8], answer: &mut A
 type Placed = (Refusal, u32);
 
 fn verdict(image: &[u8], blocks: &mut [u8], headers: &mut [u8]) -> Result<[u64; 4], Placed> {
+    let volume = judged(image, blocks, headers)?;
+    let blocks = &blocks[..volume.blocks as usize];
+    let claimed = blocks.iter().filter(|&&mark| mark > 0).count();
+    let free = volume.storage_map().iter();
+    let free: u64 = free.map(|byte| u64::from(byte.count_ones())).sum();
+    let in_use = (1..=u32::from(volume.h_fmax)).filter(|&number| volume.in_use(number));
+    let headers = in_use.count() as u64;
+    Ok([volume.blocks.into(), claimed as u64, free, headers])
+}
+
+/// The volume that an image holds, if the verdict accepts it; the marks are left.
+fn judged<'a>(
+    image: &'a [u8],
+    blocks: &mut [u8],
+    headers: &mut [u8],
+) -> Result<Volume<'a>, Placed> {
     let volume = Volume::open(image).map_err(|number| (number, 0))?;
     if blocks.len() < volume.blocks as usize || headers.len() < usize::from(volume.h_fmax) {
         return Err((WORK, 0));
@@ -487,12 +511,7 @@ fn verdict(image: &[u8], blocks: &mut [u8], headers: &mut [u8]) -> Result<[u64; 
     }
     volume.judge_badhome(blocks)?;
     volume.judge_map(blocks)?;
-    let claimed = blocks.iter().filter(|&&mark| mark > 0).count();
-    let free = volume.storage_map().iter();
-    let free: u64 = free.map(|byte| u64::from(byte.count_ones())).sum();
-    let in_use = (1..=u32::from(volume.h_fmax)).filter(|&number| volume.in_use(number));
-    let headers = in_use.count() as u64;
-    Ok([volume.blocks.into(), claimed as u64, free, headers])
+    Ok(volume)
 }
 
 /// A mark one higher, but not above 2.
@@ -508,12 +527,16 @@ impl<'a> Volume<'a> {
         &self.image[start..start + length]
     }
 
-    /// The block of each slot of a number up to H.FMAX, run by run.
-    fn slots(&self) -> impl Iterator<Item = &'a [u8; BLOCK]> + '_ {
+    /// The LBN of each slot of a number up to H.FMAX, run by run.
+    fn slot_lbns(&self) -> impl Iterator<Item = u32> + '_ {
         let pointers = self.index.iter();
         let lbns = pointers.flat_map(|(lbn, blocks)| lbn..lbn + blocks);
-        let lbns = lbns.skip(2 + self.m as usize).take(self.h_fmax.into());
-        lbns.map(|lbn| block(self.image, lbn))
+        lbns.skip(2 + self.m as usize).take(self.h_fmax.into())
+    }
+
+    /// The block of each slot of a number up to H.FMAX, run by run.
+    fn slots(&self) -> impl Iterator<Item = &'a [u8; BLOCK]> + '_ {
+        self.slot_lbns().map(|lbn| block(self.image, lbn))
     }
 
     /// The number and header of each number in use: all have a slot and are whole.

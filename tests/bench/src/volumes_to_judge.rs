@@ -1,4 +1,4 @@
-//! Sound volumes with many headers in use, for the verdict.
+//! Sound volumes with many headers in use, for the verdict and for the calls that judge first.
 //!
 //! An index file of one header maps at most 113 pointers of 256 blocks, 28,928 blocks. Of these two
 //! are the boot block and the home and 16 are the index map of H.FMAX 65,535, so that 28,910 numbers
@@ -14,9 +14,13 @@ use volumes::volume::{File, Plan, Volume, FIRST_HEADERS, MAP_BITS};
 struct Files {
     /// The headers of each file.
     headers: u16,
-    /// The pointers of each header, and the blocks of each pointer; a block stays free after each.
+    /// The pointers of each header, and the blocks of each pointer.
     pointers: u32,
     blocks: u32,
+    /// The blocks that stay free after each pointer.
+    gap: u32,
+    /// The numbers that stay free after the last file.
+    unused: u16,
 }
 
 /// Files of one header each, with a pointer of two blocks.
@@ -24,6 +28,8 @@ const SMALL_FILES: Files = Files {
     headers: 1,
     pointers: 1,
     blocks: 2,
+    gap: 1,
+    unused: 0,
 };
 
 /// A plan whose index file, from `start` on, has slots for the numbers up to `slots`; the storage
@@ -43,7 +49,7 @@ fn plan(blocks: u32, home: u32, h_fmax: u16, start: u32, slots: u32) -> Plan {
     }
 }
 
-/// A volume with every number that has a slot in use.
+/// A volume with every number that has a slot in use, but for the last ones that are to stay free.
 fn full_volume(plan: Plan, files: Files) -> Volume {
     let index = pointers_of(&plan.index_lbns());
     let storage = pointers_of(&plan.storage_lbns());
@@ -66,13 +72,13 @@ fn full_volume(plan: Plan, files: Files) -> Volume {
             headers: vec![header],
         });
     }
-    let last = volume.last_slot().min(volume.plan.h_fmax.into()) as u16;
+    let last = volume.last_slot().min(volume.plan.h_fmax.into()) as u16 - files.unused;
     for first in (6..=last).step_by(files.headers.into()) {
         let numbers = first..=last.min(first + files.headers - 1);
         let headers = (0..).zip(numbers.clone()).map(|(segment, number)| {
             let pointers = (0..files.pointers).map(|_| {
                 let lbn = next;
-                next += files.blocks + 1;
+                next += files.blocks + files.gap;
                 Pointer {
                     lbn,
                     blocks: files.blocks,
@@ -101,6 +107,8 @@ const RL02_FILES: Files = Files {
     headers: 1,
     pointers: 2,
     blocks: 3,
+    gap: 1,
+    unused: 0,
 };
 
 /// An RL02 disk with 2,000 files of one header each.
@@ -124,10 +132,42 @@ pub fn rl02_with_a_later_home() -> Volume {
 
 /// The largest volume, with as many headers as can be.
 pub fn largest() -> Volume {
+    full_volume(plan(MOST_BLOCKS, 1, 65_535, 2, 28_910), LARGEST_FILES)
+}
+
+/// What the files of the largest volume have: three pointers of ten blocks.
+const LARGEST_FILES: Files = Files {
+    headers: 1,
+    pointers: 3,
+    blocks: 10,
+    gap: 1,
+    unused: 0,
+};
+
+/// An RL02 disk with 2,000 files and 100 numbers more; its free blocks are in one piece.
+pub fn rl02_with_room() -> Volume {
     let files = Files {
-        headers: 1,
-        pointers: 3,
-        blocks: 10,
+        gap: 0,
+        unused: 100,
+        ..RL02_FILES
+    };
+    full_volume(plan(RL02_BLOCKS, 1, 2_105, 2, 2_105), files)
+}
+
+/// An RL02 disk with 2,000 files and 100 numbers more; after each pointer a block is free.
+pub fn rl02_with_broken_room() -> Volume {
+    let files = Files {
+        unused: 100,
+        ..RL02_FILES
+    };
+    full_volume(plan(RL02_BLOCKS, 1, 2_105, 2, 2_105), files)
+}
+
+/// The largest volume, with 100 numbers less than can be; after each pointer a block is free.
+pub fn largest_with_room() -> Volume {
+    let files = Files {
+        unused: 100,
+        ..LARGEST_FILES
     };
     full_volume(plan(MOST_BLOCKS, 1, 65_535, 2, 28_910), files)
 }

@@ -27,6 +27,37 @@ impl Areas {
         random.fill(&mut areas.headers);
         areas
     }
+
+    /// Areas that are enough for an image, and hold any bytes.
+    pub fn enough_for(random: &mut Random, image: &[u8]) -> Areas {
+        let (blocks, headers) = enough(random, needed(image));
+        Areas::random(random, blocks, headers)
+    }
+
+    /// The first mark in which the areas that library and model left differ, where these are the
+    /// areas before.
+    pub fn difference(&self, library: &Areas, model: &Areas) -> Option<Line> {
+        let blocks = (&library.blocks, &model.blocks, &self.blocks);
+        let headers = (&library.headers, &model.headers, &self.headers);
+        let both = [("block marks", blocks), ("header marks", headers)];
+        both.into_iter()
+            .find_map(|(name, (library, model, before))| {
+                let place = first_byte(library, model)?;
+                let differs = format!(
+                    "place {place}: library {}, model {}, before {}",
+                    library[place], model[place], before[place]
+                );
+                Some((name, differs))
+            })
+    }
+}
+
+/// The first place in which bytes differ.
+pub fn first_byte(left: &[u8], right: &[u8]) -> Option<usize> {
+    if left == right {
+        return None;
+    }
+    (0..left.len()).find(|&place| left[place] != right[place])
 }
 
 /// The lengths that the work areas of an image must have: N and H.FMAX; where it does not open, any.
@@ -38,7 +69,7 @@ pub fn needed(image: &[u8]) -> (usize, usize) {
 }
 
 /// Lengths of work areas that are enough: just so, or longer.
-fn enough(random: &mut Random, (blocks, headers): (usize, usize)) -> (usize, usize) {
+pub fn enough(random: &mut Random, (blocks, headers): (usize, usize)) -> (usize, usize) {
     let more = |random: &mut Random| match random.below(4) {
         0 => 1,
         1 => random.between(1, 600),
@@ -49,7 +80,7 @@ fn enough(random: &mut Random, (blocks, headers): (usize, usize)) -> (usize, usi
 }
 
 /// Lengths of work areas of which at least one is too short: by one, empty, or by any.
-fn too_short(random: &mut Random, (blocks, headers): (usize, usize)) -> (usize, usize) {
+pub fn too_short(random: &mut Random, (blocks, headers): (usize, usize)) -> (usize, usize) {
     let less = |random: &mut Random, length: usize| match random.below(4) {
         0 => 0,
         1 => random.between(0, length.saturating_sub(1)),
@@ -62,24 +93,56 @@ fn too_short(random: &mut Random, (blocks, headers): (usize, usize)) -> (usize, 
     }
 }
 
-/// The lenders of the two work areas.
+/// The lenders of the two work areas, and of an image that is to be changed.
 #[derive(Default)]
 pub struct Desk {
     blocks: Lender,
     headers: Lender,
+    image: Lender,
 }
 
 impl Desk {
     /// What the library answers, and what it leaves in the work areas, which are lent so that a
     /// write or a read beside them is seen.
     fn by_library(&mut self, image: &[u8], areas: &mut Areas) -> Words {
-        let Desk { blocks, headers } = self;
-        blocks.lend_area(&mut areas.blocks, |blocks| {
-            headers.lend_area(&mut areas.headers, |headers| {
-                library::judge(image, blocks, headers)
-            })
+        self.lend_areas(areas, |blocks, headers| {
+            library::judge(image, blocks, headers)
         })
     }
+
+    /// Lends the two work areas to a call, so that a write or a read beside them is seen.
+    pub fn lend_areas(
+        &mut self,
+        areas: &mut Areas,
+        call: impl FnOnce(&mut [u8], &mut [u8]) -> Words,
+    ) -> Words {
+        lend_both((&mut self.blocks, &mut self.headers), areas, call)
+    }
+
+    /// Lends an image that is to be changed, and the two work areas, so that a write or a read beside
+    /// them is seen.
+    pub fn lend_all(
+        &mut self,
+        image: &mut [u8],
+        areas: &mut Areas,
+        call: impl FnOnce(&mut [u8], &mut [u8], &mut [u8]) -> Words,
+    ) -> Words {
+        let both = (&mut self.blocks, &mut self.headers);
+        self.image.lend_to_write(image, |image| {
+            lend_both(both, areas, |blocks, headers| call(image, blocks, headers))
+        })
+    }
+}
+
+/// Lends the two work areas to a call.
+fn lend_both(
+    (blocks, headers): (&mut Lender, &mut Lender),
+    areas: &mut Areas,
+    call: impl FnOnce(&mut [u8], &mut [u8]) -> Words,
+) -> Words {
+    blocks.lend_to_write(&mut areas.blocks, |blocks| {
+        headers.lend_to_write(&mut areas.headers, |headers| call(blocks, headers))
+    })
 }
 
 impl Subject<'_> {
@@ -122,30 +185,9 @@ impl Subject<'_> {
             ];
             self.fail_judge(run, areas, lines);
         }
-        let both = [
-            (
-                "block marks",
-                &by_library.blocks,
-                &by_model.blocks,
-                &areas.blocks,
-            ),
-            (
-                "header marks",
-                &by_library.headers,
-                &by_model.headers,
-                &areas.headers,
-            ),
-        ];
-        for (name, library, model, before) in both {
-            let place = (0..before.len()).find(|&place| library[place] != model[place]);
-            if let Some(place) = place {
-                let differs = format!(
-                    "place {place}: library {}, model {}, before {}",
-                    library[place], model[place], before[place]
-                );
-                let lines = vec![("model", show_answer(&expected)), (name, differs)];
-                self.fail_judge(run, areas, lines);
-            }
+        if let Some(differs) = areas.difference(&by_library, &by_model) {
+            let lines = vec![("model", show_answer(&expected)), differs];
+            self.fail_judge(run, areas, lines);
         }
         answer
     }
@@ -158,8 +200,7 @@ impl Subject<'_> {
         desk: &mut Desk,
         expected: Judged,
     ) {
-        let lengths = enough(random, needed(self.image));
-        let areas = Areas::random(random, lengths.0, lengths.1);
+        let areas = Areas::enough_for(random, self.image);
         let answer = desk.by_library(self.image, &mut areas.clone());
         let judged = match expected {
             Judged::Accepted => answer[..2] == [0, 0],

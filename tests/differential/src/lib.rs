@@ -4,6 +4,8 @@
 //! * [`names`]: the comparisons of the calls on names, and the names and texts that they use;
 //! * [`images`]: the comparisons of the calls on images;
 //! * [`judging`]: the comparisons of the verdict, with its work areas;
+//! * [`writing`]: the comparisons of create, extend and delete, with the image that they change;
+//! * [`lists`]: lists of those calls, and what demand 3 says of an image after one;
 //! * [`asked`]: the IDs, VBNs, names and record places that are asked of a volume.
 //!
 //! The environment changes a run:
@@ -18,8 +20,10 @@
 pub mod asked;
 pub mod images;
 pub mod judging;
+pub mod lists;
 pub mod names;
 pub mod run;
+pub mod writing;
 
 pub use run::Run;
 pub use volumes::Random;

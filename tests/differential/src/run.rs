@@ -231,7 +231,7 @@ impl Run {
 }
 
 /// The kinds of things met that are calls, and their numbers answers.
-pub const CALLS: [&str; 7] = [
+pub const CALLS: [&str; 10] = [
     "open_volume",
     "open_file",
     "map",
@@ -239,6 +239,9 @@ pub const CALLS: [&str; 7] = [
     "look_up",
     "next_record",
     "judge",
+    "create",
+    "extend",
+    "delete",
 ];
 
 /// Tells something past the test harness, which keeps back what a passing test prints.

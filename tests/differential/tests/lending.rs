@@ -1,5 +1,6 @@
-//! How images and work areas are lent: a write to an image, or a read past the end of either, ends
-//! the run, and a write before a work area is seen.
+//! How images and work areas are lent: a write to an image that is to be read, or a read past the
+//! end of either, ends the run, and a write before a work area, or before an image that is to be
+//! changed, is seen.
 
 use library::Lender;
 use std::fs;
@@ -40,15 +41,15 @@ fn a_lent_image_is_fenced_in() {
     }
 }
 
-/// A work area can be read and written; the byte after it, and the page before its first, can be
-/// neither. What is written stays, and is copied back.
+/// What is lent to be written can be read and written; the byte after it, and the page before its
+/// first, can be neither. What is written stays, and is copied back.
 #[test]
-fn a_lent_work_area_is_fenced_in() {
+fn what_is_lent_to_be_written_is_fenced_in() {
     let mut lender = Lender::new();
-    for length in [100, 0, 1, 4_096, 65_535, 16, 8_191, 20_480] {
+    for length in [100, 0, 1, 4_096, 65_535, 16, 8_191, 20_480, 51_200, 200_192] {
         let before: Vec<u8> = (0..length).map(|at| (at % 251) as u8).collect();
         let mut area = before.clone();
-        let told = lender.lend_area(&mut area, |lent| {
+        let told = lender.lend_to_write(&mut area, |lent| {
             assert_eq!(lent, before);
             let first = lent.as_ptr() as usize;
             let end = first + length;
@@ -70,14 +71,14 @@ fn a_lent_work_area_is_fenced_in() {
     }
 }
 
-/// A write just before a work area, and one at the start of its first page.
+/// A write just before what is lent to be written, and one at the start of its first page.
 #[test]
-fn a_write_before_a_work_area_is_seen() {
-    for length in [1, 100, 4_095, 5_000] {
+fn a_write_before_what_is_lent_is_seen() {
+    for length in [1, 100, 4_095, 5_000, 51_200] {
         for far in [false, true] {
             let seen = catch_unwind(|| {
                 let mut area = vec![7; length];
-                Lender::new().lend_area(&mut area, |lent| {
+                Lender::new().lend_to_write(&mut area, |lent| {
                     let first = lent.as_mut_ptr() as usize;
                     let place = if far { first & !4_095 } else { first - 1 };
                     // SAFETY: the byte is in the lender's own pages, which may be written; it is

@@ -2,7 +2,9 @@
 //! reader must check the sequence number the entry was made with."
 
 use differential::images::{Asked, Call, Subject};
-use differential::Run;
+use differential::judging::Desk;
+use differential::writing::{Change, Changing};
+use differential::{Random, Run};
 use library::Lender;
 use model::{Id, Number};
 use volumes::block::{put_word, seal_header};
@@ -11,6 +13,8 @@ use volumes::header::at;
 use volumes::shapes::{random_volume, Size};
 use volumes::volume::Record;
 use volumes::volume_v::{volume_v, READS};
+use volumes::writable::{random_volume_to_write, unused_numbers};
+use volumes::Volume;
 
 /// Volume V after the readings file was deleted and another took number 6: the header has sequence
 /// 10, and the entry still names 6,9.
@@ -80,5 +84,109 @@ fn old_entries_of_random_volumes() {
             subject.compare_file(run, &asked);
         });
         run.expect_met("open_file", [9], 2_000);
+    });
+}
+
+/// Creates files until one takes a number, and answers its ID; none where no more can be created.
+fn create_until(
+    run: &mut Run,
+    random: &mut Random,
+    desk: &mut Desk,
+    changing: &mut Changing,
+    number: u16,
+) -> Option<Id> {
+    loop {
+        let call = Change::Create(name_words("NEW.DAT;1"), (random.word(), random.word()));
+        let answer = changing.compare_enough(run, random, desk, call);
+        if answer[0] != 0 {
+            return None;
+        }
+        if answer[2] == u64::from(number) {
+            return Some(Id::from_words([number, answer[3] as u16, answer[4] as u16]));
+        }
+    }
+}
+
+/// The directory that has the old entry, which every volume has and no call may delete.
+const DIRECTORY: u16 = 4;
+
+/// The user's story by the calls themselves: a readings file is deleted, the next file takes its
+/// number, and the old directory entry still names the first. Its ID opens, reads and changes
+/// nothing.
+fn tell_the_story(run: &mut Run, random: &mut Random, desk: &mut Desk, built: &Volume, old: Id) {
+    let name = name_words("OLD.DAT;77");
+    let story = [("volume", built.describe()), ("old", format!("{old:?}"))];
+    let directory = built.file(DIRECTORY).id();
+    let mut changing = Changing::new(&built.image, &story);
+    changing.expect(run, random, desk, Change::Delete(old), Ok(&[0]));
+    let new = create_until(run, random, desk, &mut changing, old.number);
+    let refusal = match new {
+        Some(_) => Number::Sequence,
+        None => Number::Number,
+    };
+    // Only the last sequence of all is never followed by another.
+    let is_last = old.sequence == 65_535;
+    assert_eq!(new.is_none(), is_last, "{story:?}: {new:?}");
+    if let Some(new) = new {
+        assert_eq!(new.words(), [old.number, old.sequence + 1, 0]);
+    }
+    for call in [Change::Extend(old, 1), Change::Delete(old)] {
+        changing.expect(run, random, desk, call, Err(refusal));
+    }
+    let subject = Subject {
+        image: &changing.image,
+        story: &story,
+    };
+    let stored = old.words().map(u64::from);
+    subject.expect_words(run, Call::LookUp(directory, name), &stored);
+    for call in [
+        Call::OpenFile(old),
+        Call::Map(old, 1),
+        Call::Block(old, 1),
+        Call::LookUp(old, name),
+    ] {
+        subject.expect(run, call, refusal);
+    }
+    subject.expect(run, Call::NextRecord(old, 0), Number::Absent);
+    run.meet("story", refusal.number());
+    if let Some(new) = new {
+        subject.expect_words(run, Call::OpenFile(new), &[0]);
+        changing.expect(run, random, desk, Change::Delete(new), Ok(&[0]));
+    }
+}
+
+/// The story on Volume V and on random volumes.
+#[test]
+fn the_number_is_taken_by_another_file() {
+    let test = "the_number_is_taken_by_another_file";
+    Run::of(module_path!(), test, 150, |run| {
+        let mut desk = Desk::default();
+        let name = name_words("OLD.DAT;77");
+        run.random_cases(150, |run, random| {
+            let mut built = match random.below(8) {
+                0 => volume_v(),
+                _ => random_volume_to_write(random, Size::Small),
+            };
+            let files = built.files.iter();
+            let mut files = files.filter(|file| file.number() > 5 && !file.is_locked());
+            // Where many numbers are free, creating goes on for long.
+            let few = unused_numbers(&built).len() < 30;
+            let Some(mut old) = files.next().map(|file| file.id()).filter(|_| few) else {
+                run.meet("no story", 1);
+                return;
+            };
+            if random.once_in(8) {
+                old.sequence = 65_535;
+                built.edit_header(old.number, |header| header.sequence = 65_535);
+            }
+            let record = Record {
+                id: old.words(),
+                name,
+            };
+            built.put_record(DIRECTORY, 0, record);
+            tell_the_story(run, random, &mut desk, &built, old);
+        });
+        run.expect_met("story", [Number::Sequence.number()], 50);
+        run.expect_met("story", [Number::Number.number()], 5);
     });
 }

@@ -1,6 +1,6 @@
 //! Lends an image to the library so that a wrong access ends the run at once: the bytes can be read
-//! and not written, and those beside them can not even be read. A work area is lent in the same way,
-//! but that it can be written.
+//! and not written, and those beside them can not even be read. A work area, and the image of a call
+//! that changes it, are lent in the same way, but that they can be written.
 
 use std::ffi::c_void;
 use std::{ptr, slice};
@@ -29,7 +29,7 @@ extern "C" {
     fn munmap(place: *mut c_void, length: usize) -> i32;
 }
 
-/// What stands in the first page before a work area, where the page has room.
+/// What stands in the first page before the bytes that are lent, where the page has room.
 const BESIDE: u8 = 0xc3;
 
 /// Pages to lend images in, with a page before and a page after them that nobody may touch.
@@ -61,29 +61,29 @@ impl Lender {
         unsafe { slice::from_raw_parts(self.pages.add(start), image.len()) }
     }
 
-    /// Lends a work area to a call: a copy of the bytes, which may be written and which ends where
-    /// the page that nobody may touch begins. What the call leaves in it is copied back. The bytes
-    /// before the area, in its first page, are seen to be unchanged.
-    pub fn lend_area<Answer>(
+    /// Lends a work area, or an image that is to be changed, to a call: a copy of the bytes, which
+    /// may be written and which ends where the page that nobody may touch begins. What the call
+    /// leaves in it is copied back. The bytes before it, in its first page, are seen to be unchanged.
+    pub fn lend_to_write<Answer>(
         &mut self,
-        area: &mut [u8],
+        bytes: &mut [u8],
         call: impl FnOnce(&mut [u8]) -> Answer,
     ) -> Answer {
-        let start = self.put(area, READ_AND_WRITE);
+        let start = self.put(bytes, READ_AND_WRITE);
         let before = start - start % PAGE;
         // SAFETY: the bytes were just written, may be read and written, and nobody else refers to
         // them while the call has them.
-        let lent = unsafe { slice::from_raw_parts_mut(self.pages.add(start), area.len()) };
+        let lent = unsafe { slice::from_raw_parts_mut(self.pages.add(start), bytes.len()) };
         let answer = call(lent);
         // SAFETY: these bytes may be read, and the loan has ended.
         let (beside, left) = unsafe {
             let beside = slice::from_raw_parts(self.pages.add(before), start - before);
-            let left = slice::from_raw_parts(self.pages.add(start), area.len());
+            let left = slice::from_raw_parts(self.pages.add(start), bytes.len());
             (beside, left)
         };
         let is_unchanged = beside.iter().all(|&byte| byte == BESIDE);
-        assert!(is_unchanged, "bytes before the work area were written");
-        area.copy_from_slice(left);
+        assert!(is_unchanged, "bytes before what was lent were written");
+        bytes.copy_from_slice(left);
         answer
     }
 

@@ -4,7 +4,7 @@
 //! word that the library did not write is seen as [`UNWRITTEN`].
 //!
 //! [`Lender`] lends an image so that a write to it, or a read beside it, ends the run, and a work
-//! area so that a write or a read beside it does.
+//! area, or an image that is to be changed, so that a write or a read beside it does.
 
 mod lend;
 
@@ -82,6 +82,50 @@ mod exported {
         pub fn ods1_judge(
             image: *const u8,
             image_len: usize,
+            blocks: *mut u8,
+            blocks_len: usize,
+            headers: *mut u8,
+            headers_len: usize,
+            answer: *mut Words,
+        );
+
+        pub fn ods1_create(
+            image: *mut u8,
+            image_len: usize,
+            name1: u16,
+            name2: u16,
+            name3: u16,
+            typ: u16,
+            version: u16,
+            owner: u16,
+            protection: u16,
+            blocks: *mut u8,
+            blocks_len: usize,
+            headers: *mut u8,
+            headers_len: usize,
+            answer: *mut Words,
+        );
+
+        pub fn ods1_extend(
+            image: *mut u8,
+            image_len: usize,
+            number: u16,
+            sequence: u16,
+            volume: u16,
+            count: u32,
+            blocks: *mut u8,
+            blocks_len: usize,
+            headers: *mut u8,
+            headers_len: usize,
+            answer: *mut Words,
+        );
+
+        pub fn ods1_delete(
+            image: *mut u8,
+            image_len: usize,
+            number: u16,
+            sequence: u16,
+            volume: u16,
             blocks: *mut u8,
             blocks_len: usize,
             headers: *mut u8,
@@ -266,6 +310,92 @@ pub fn judge(image: &[u8], blocks: &mut [u8], headers: &mut [u8]) -> Words {
             exported::ods1_judge(
                 image.as_ptr(),
                 image.len(),
+                blocks.as_mut_ptr(),
+                blocks.len(),
+                headers.as_mut_ptr(),
+                headers.len(),
+                answer,
+            )
+        }
+    })
+}
+
+// SAFETY, of all calls that change an image: image and work areas are slices that outlive the call
+// and that nothing else refers to during it, and so is the answer's place.
+
+/// `ods1_create`: the ID of a new file with this name (five words), owner and protection.
+pub fn create(
+    image: &mut [u8],
+    name: [u16; 5],
+    (owner, protection): (u16, u16),
+    blocks: &mut [u8],
+    headers: &mut [u8],
+) -> Words {
+    let [name1, name2, name3, typ, version] = name;
+    answer_of(|answer| {
+        // SAFETY: as above.
+        unsafe {
+            exported::ods1_create(
+                image.as_mut_ptr(),
+                image.len(),
+                name1,
+                name2,
+                name3,
+                typ,
+                version,
+                owner,
+                protection,
+                blocks.as_mut_ptr(),
+                blocks.len(),
+                headers.as_mut_ptr(),
+                headers.len(),
+                answer,
+            )
+        }
+    })
+}
+
+/// `ods1_extend`: the first of so many blocks more of the file with this ID.
+pub fn extend(
+    image: &mut [u8],
+    id: [u16; 3],
+    count: u32,
+    blocks: &mut [u8],
+    headers: &mut [u8],
+) -> Words {
+    let [number, sequence, volume] = id;
+    answer_of(|answer| {
+        // SAFETY: as above.
+        unsafe {
+            exported::ods1_extend(
+                image.as_mut_ptr(),
+                image.len(),
+                number,
+                sequence,
+                volume,
+                count,
+                blocks.as_mut_ptr(),
+                blocks.len(),
+                headers.as_mut_ptr(),
+                headers.len(),
+                answer,
+            )
+        }
+    })
+}
+
+/// `ods1_delete`: nothing but that the file with this ID is no more.
+pub fn delete(image: &mut [u8], id: [u16; 3], blocks: &mut [u8], headers: &mut [u8]) -> Words {
+    let [number, sequence, volume] = id;
+    answer_of(|answer| {
+        // SAFETY: as above.
+        unsafe {
+            exported::ods1_delete(
+                image.as_mut_ptr(),
+                image.len(),
+                number,
+                sequence,
+                volume,
                 blocks.as_mut_ptr(),
                 blocks.len(),
                 headers.as_mut_ptr(),

@@ -92,12 +92,18 @@ fn first_header<'a>(volume: &Volume<'a>, id: Id) -> Result<Header<'a>, Number> {
     Ok(header)
 }
 
+/// The headers of a file, in the order of its chain, where 6 to 12 are not given. Paper 01, "Answer
+/// numbers": "Order: .. 6 to 12", "12 CHAIN | a bad link".
+pub fn headers<'a>(volume: &Volume<'a>, id: Id) -> Result<Vec<Header<'a>>, Number> {
+    let first = first_header(volume, id)?;
+    volume.chain(first).map_err(|_| Number::Chain)
+}
+
 /// Opens a file. Paper 01, "The work and its edge": "Every call on a volume opens it first", and
-/// "Answer numbers": "Order: 1 to 5; .. 6 to 12", "12 CHAIN | a bad link".
+/// "Answer numbers": "Order: 1 to 5; .. 6 to 12".
 pub fn open(bytes: &[u8], id: Id) -> Opened<'_> {
     let volume = volume::open(bytes)?;
-    let first = first_header(&volume, id)?;
-    let chain = volume.chain(first).map_err(|_| Number::Chain)?;
+    let chain = headers(&volume, id)?;
     let pointers = chain.iter().flat_map(Header::pointers).collect();
     Ok(File {
         image: volume.image(),

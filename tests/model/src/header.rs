@@ -28,6 +28,18 @@ impl Pointer {
         }
     }
 
+    /// The four bytes of a pointer. Paper 01, "The header": "A pointer: high LBN byte, count byte,
+    /// low LBN word; count c covers c+1 blocks."
+    pub fn bytes(&self) -> [u8; 4] {
+        let low = self.lbn.0 % 65_536;
+        [
+            (self.lbn.0 / 65_536) as u8,
+            (self.blocks - 1) as u8,
+            (low % 256) as u8,
+            (low / 256) as u8,
+        ]
+    }
+
     /// The blocks that it covers, in order. Paper 01, "The header": "count c covers c+1 blocks".
     pub fn lbns(&self) -> impl Iterator<Item = Lbn> {
         let first = self.lbn.0;
@@ -105,9 +117,19 @@ impl<'a> Header<'a> {
         self.block[13]
     }
 
+    /// The bytes of the block. Paper 01, "The header": "Bytes: H.IDOF 0, H.MPOF 1, .."
+    pub fn block(&self) -> &'a [u8] {
+        self.block
+    }
+
     /// Where the map area starts. Paper 01, "The header": "Map area at byte 2·H.MPOF".
+    pub fn map_area_at(&self) -> usize {
+        2 * self.h_mpof() as usize
+    }
+
+    /// The bytes from the map area on. Paper 01, "The header": "Map area at byte 2·H.MPOF".
     fn map_area(&self) -> &'a [u8] {
-        &self.block[2 * self.h_mpof() as usize..]
+        &self.block[self.map_area_at()..]
     }
 
     /// Paper 01, "The header": "segment number 0".
@@ -330,5 +352,6 @@ mod tests {
         assert_eq!(pointer.lbn, Lbn(0x0f_1234));
         assert_eq!(pointer.blocks, 4);
         assert_eq!(pointer.last(), Lbn(0x0f_1237));
+        assert_eq!(pointer.bytes(), [0x0f, 3, 0x34, 0x12]);
     }
 }

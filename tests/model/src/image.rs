@@ -65,6 +65,12 @@ pub fn word(bytes: &[u8], at: usize) -> u64 {
     u64::from(bytes[at]) + 256 * u64::from(bytes[at + 1])
 }
 
+/// Puts a word. Paper 01, "The work and its edge": "Words are two bytes, low byte first."
+pub fn put_word(bytes: &mut [u8], at: usize, word: u64) {
+    bytes[at] = (word % 256) as u8;
+    bytes[at + 1] = (word / 256) as u8;
+}
+
 /// Paper 01, "The volume": "H.IBLB 2 (high word first)".
 pub fn two_words_high_first(bytes: &[u8], at: usize) -> u64 {
     65_536 * word(bytes, at) + word(bytes, at + 2)
@@ -87,6 +93,13 @@ pub fn checksum_is_right(block: &[u8]) -> bool {
 pub fn bit(bytes: &[u8], j: u64) -> bool {
     let byte = bytes[(j / 8) as usize];
     byte >> (j % 8) & 1 == 1
+}
+
+/// Puts a bit. Paper 01, "The volume": "Bit j is bit j mod 8 of byte j/8."
+pub fn put_bit(bytes: &mut [u8], j: u64, set: bool) {
+    let byte = &mut bytes[(j / 8) as usize];
+    let others = *byte & !(1 << (j % 8));
+    *byte = others | u8::from(set) << (j % 8);
 }
 
 #[cfg(test)]
@@ -115,6 +128,9 @@ mod tests {
         assert_eq!(word(&bytes, 0), 0x3412);
         assert_eq!(word(&bytes, 1), 0x5634);
         assert_eq!(two_words_high_first(&bytes, 0), 0x3412_7856);
+        let mut bytes = bytes;
+        put_word(&mut bytes, 1, 0xfedc);
+        assert_eq!(bytes, [0x12, 0xdc, 0xfe, 0x78, 0x9a]);
     }
 
     #[test]
@@ -145,6 +161,11 @@ mod tests {
         let bytes = [0b0000_0001, 0b1000_0010];
         let set: Vec<u64> = (0..16).filter(|&j| bit(&bytes, j)).collect();
         assert_eq!(set, [0, 9, 15]);
+        let mut bytes = bytes;
+        put_bit(&mut bytes, 15, true);
+        put_bit(&mut bytes, 9, false);
+        put_bit(&mut bytes, 7, true);
+        assert_eq!(bytes, [0b1000_0001, 0b1000_0000]);
     }
 
     #[test]

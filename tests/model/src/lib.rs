@@ -14,7 +14,9 @@
 //! * [`file`]: "The header" and "Answer numbers", opening a file, its blocks;
 //! * [`directory`]: "Names and directories", look-up and the walker's step;
 //! * [`verdict`]: "The verdict", its refusals with their places, its counts and its marks;
-//! * [`sound`]: "Demand 3, its words and its list", what the verdict is to accept, apart from it.
+//! * [`sound`]: "Demand 3, its words and its list", what the verdict is to accept, apart from it;
+//! * [`writing`]: "The verdict", create, extend and delete, which judge the volume first;
+//! * [`kept`]: "Demand 3, its words and its list", what a list of those calls leaves of a file.
 
 #![forbid(unsafe_code)]
 
@@ -23,11 +25,13 @@ pub mod directory;
 pub mod file;
 pub mod header;
 pub mod image;
+pub mod kept;
 pub mod names;
 pub mod radix50;
 pub mod sound;
 pub mod verdict;
 pub mod volume;
+pub mod writing;
 
 #[cfg(test)]
 mod sample;

@@ -184,34 +184,52 @@ impl<'a> Volume<'a> {
         self.home.h_fmax
     }
 
+    /// The LBNs of the blocks of bits of the storage map file. Paper 01, "The volume": "Byte 3 of its
+    /// first block is q; .. Then q blocks of bits".
+    pub fn storage_map_lbns(&self) -> Vec<Lbn> {
+        let header = self.slot(FileNumber(2));
+        let header = header.expect("the index file maps the first 16 slots");
+        let pointers = header.pointers();
+        pointers.iter().flat_map(Pointer::lbns).skip(1).collect()
+    }
+
     /// The blocks of bits of the storage map file. Paper 01, "The volume": "Byte 3 of its first
     /// block is q; .. Then q blocks of bits".
     pub fn storage_map(&self) -> Vec<&'a [u8]> {
-        let header = self.slot(FileNumber(2));
-        let header = header.expect("the index file maps the first 16 slots");
-        let lbns = header.pointers();
-        let lbns = lbns.iter().flat_map(Pointer::lbns).skip(1);
+        let lbns = self.storage_map_lbns().into_iter();
         lbns.map(|lbn| self.image.block(lbn)).collect()
+    }
+
+    /// The LBN of a number's slot, if it has one. Paper 01, "The volume": "The slot of file n is VBN
+    /// 2+m+n; past the mapped blocks n has no slot."
+    pub fn slot_lbn(&self, n: FileNumber) -> Option<Lbn> {
+        let m = self.home.h_ibsz;
+        lbn_of(&self.index, Vbn(2 + m + n.0))
     }
 
     /// The header in a number's slot, if it has one. Paper 01, "The volume": "The slot of file n is
     /// VBN 2+m+n; past the mapped blocks n has no slot."
     pub fn slot(&self, n: FileNumber) -> Option<Header<'a>> {
-        let m = self.home.h_ibsz;
-        let lbn = lbn_of(&self.index, Vbn(2 + m + n.0))?;
+        let lbn = self.slot_lbn(n)?;
         Some(Header::of(self.image.block(lbn)))
     }
 
-    /// Paper 01, "The volume": "Number n, from 1 to H.FMAX only, is in use when index map bit n−1
-    /// is set. Bit j is bit j mod 8 of byte j/8." The index map is at H.IBLB: "VBN 3 to m+18 to
+    /// Where the bit of a number from 1 to H.FMAX is: a block of the index map, and the bit in it.
+    /// Paper 01, "The volume": "index map bit n−1". The index map is at H.IBLB: "VBN 3 to m+18 to
     /// H.IBLB onward".
+    pub fn index_map_bit(&self, n: FileNumber) -> (Lbn, u64) {
+        let j = n.0 - 1;
+        (Lbn(self.home.h_iblb + j / MAP_BITS), j % MAP_BITS)
+    }
+
+    /// Paper 01, "The volume": "Number n, from 1 to H.FMAX only, is in use when index map bit n−1
+    /// is set. Bit j is bit j mod 8 of byte j/8."
     pub fn in_use(&self, n: FileNumber) -> bool {
         if !(1..=self.home.h_fmax).contains(&n.0) {
             return false;
         }
-        let j = n.0 - 1;
-        let block = self.image.block(Lbn(self.home.h_iblb + j / MAP_BITS));
-        bit(block, j % MAP_BITS)
+        let (lbn, j) = self.index_map_bit(n);
+        bit(self.image.block(lbn), j)
     }
 
     /// Why a number is not that of a whole header in use, or that header. Paper 01, "The header":

@@ -27,6 +27,9 @@ pub mod in_map {
     pub const POINTERS: usize = 10;
 }
 
+/// The user flag of a file that is contiguous.
+pub const CONTIGUOUS: u8 = 128;
+
 /// The user flag of a file that is deaccess-locked.
 pub const DEACCESS_LOCKED: u8 = 64;
 

@@ -11,6 +11,8 @@
 //! * [`space`]: the blocks of a volume that are taken and free;
 //! * [`directory`]: records of every kind, and names;
 //! * [`shapes`]: sound volumes of every shape, at random;
+//! * [`large`]: sound volumes of many blocks;
+//! * [`writable`]: sound volumes with little room, for the calls that change one;
 //! * [`damage`]: each way that a rule of opening can be broken, with what is then answered;
 //! * [`flaw`]: each way that a rule of the verdict can be broken, with its place;
 //! * [`accident`]: random changes of a volume, and images of any bytes.
@@ -23,11 +25,13 @@ pub mod damage;
 pub mod directory;
 pub mod flaw;
 pub mod header;
+pub mod large;
 pub mod random;
 pub mod shapes;
 pub mod space;
 pub mod volume;
 pub mod volume_v;
+pub mod writable;
 
 pub use random::Random;
 pub use volume::Volume;
