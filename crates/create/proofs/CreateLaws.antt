@@ -16,8 +16,7 @@ use Rattle.radix50.specs.Names.{proper}
 use Rattle.volume.specs.Volume.{fmax}
 use Rattle.verdict.specs.Verdict.{verdict, afterwards}
 use Rattle.update.specs.declared.answers.Created.the-variants.{Refused}
-use Rattle.update.specs.Create.{freeNumber, createOutcome, created}
-use Rattle.create.specs.Tests.{createTests}
+use Rattle.update.specs.Create.{freeNumber, createOutcome, created, createTests}
 
 -- The tests, in their order.
 module _ (image : List ℕ) (name : Name) where
@@ -49,5 +48,5 @@ module _ (image : List ℕ) (name : Name) (b h : ℕ) where
   judged-refused r e = then-refused (verdict image b h) _ r e
 
   pub judged-passed : verdict image b h ≡ outcome.Passed → createOutcome image name b h ≡ createTests image name
-  unfolding createOutcome createTests
+  unfolding createOutcome
   judged-passed e = then-passed (verdict image b h) _ e

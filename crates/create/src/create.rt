@@ -23,8 +23,7 @@ ghost use Rattle.volume.specs.Opening.{Open};
 ghost use Rattle.verdict.specs.Verdict.{afterwards, headerMarks, blockMarks};
 ghost use Rattle.edits.specs.Fresh.{freshHeader};
 ghost use Rattle.update.specs.Writes.{putBlock, putMapBits};
-ghost use Rattle.update.specs.Create.{freeNumber, newId, created, createAnswer, indexBit, withFile, createImage};
-ghost use Rattle.create.specs.Tests.{createTests};
+ghost use Rattle.update.specs.Create.{freeNumber, newId, created, createAnswer, indexBit, withFile, createImage, createTests};
 
 // The block with an LBN made the header of a new file.
 fn put_header(image: &mut [u8], lbn: Lbn, id: FileId, owner: u16, protection: u16, name: Name)

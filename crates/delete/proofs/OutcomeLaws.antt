@@ -1,9 +1,7 @@
 -- What delete answers and leaves, by what its tests come to.
-use mathlib.Core.Path.{_≡_, refl, ap, _∙_}
-use mathlib.Core.Bool.{true, false, not}
+use mathlib.Core.Path.{_≡_, _∙_}
 use mathlib.Core.List.{List}
 use Prim.Native.Nat.{ℕ, _≤_, _<_}
-use native.Mathlib.Omega.{arith}
 use borrow.Author.Tests.{le-leb, lt-leb}
 use Rattle.answer.specs.declared.types.FileId.{FileId}
 use Rattle.answer.specs.declared.refusal.Refusal.{Refusal}
@@ -18,8 +16,7 @@ use Rattle.file.specs.Opening.{find, access, chained, openFile}
 use Rattle.verdict.specs.Verdict.{verdict, afterwards}
 use Rattle.update.specs.declared.answers.Deleted.the-variants as answers
 use Rattle.update.specs.Extend.{isKnownNumber}
-use Rattle.update.specs.Delete.{deleteOutcome, deleted, deleteAnswer, withoutNumbers, deleteImage}
-use Rattle.delete.specs.Deleting.{deleteTests}
+use Rattle.update.specs.Delete.{deleteOutcome, deleted, deleteAnswer, withoutNumbers, deleteImage, deleteTests}
 
 module _ (image : List ℕ) (id : FileId) where
   abbrev without : List ℕ
@@ -59,5 +56,5 @@ module _ (image : List ℕ) (id : FileId) where
     judged-refused r e = answer-refused (deleteOutcome image id b h) r (then-refused (verdict image b h) _ r e)
 
     pub judged-passed : verdict image b h ≡ Passed → deleteOutcome image id b h ≡ deleteTests image id
-    unfolding deleteOutcome deleteTests
+    unfolding deleteOutcome
     judged-passed e = then-passed (verdict image b h) _ e

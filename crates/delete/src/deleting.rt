@@ -22,8 +22,7 @@ ghost use Rattle.volume.specs.Opening.{Open};
 ghost use Rattle.file.specs.Chains.{chainOf, goodChain, IsFirst};
 ghost use Rattle.verdict.specs.Verdict.{afterwards, blockMarks, headerMarks};
 ghost use Rattle.sound.specs.Sound.{Sound};
-ghost use Rattle.update.specs.Delete.{deleted, deleteAnswer, withoutNumbers, deleteImage};
-ghost use Rattle.delete.specs.Deleting.{deleteTests};
+ghost use Rattle.update.specs.Delete.{deleted, deleteAnswer, withoutNumbers, deleteImage, deleteTests};
 
 // The chain of the file whose first header has number n and lies at this LBN given up: its index bits, its blocks, its slots. The slots come last, for
 // the pointers stand in them.

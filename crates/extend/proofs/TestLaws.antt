@@ -24,10 +24,10 @@ use Rattle.runs.specs.declared.Start.{Start}
 use Rattle.runs.specs.declared.Start.the-variants as starts
 use Rattle.runs.specs.Runs.{startOf}
 use Rattle.update.specs.declared.answers.Extended.the-variants as answers
-use Rattle.update.specs.Extend.{isKnownNumber, isFixed, isCount, hasRoom, lastNumber, runStart, hasRun, extendOutcome, extended}
+use Rattle.update.specs.Extend.{isKnownNumber, isFixed, isCount, hasRoom, lastNumber, runStart, hasRun, extendOutcome, extended, extendTests}
 use Rattle.extend.specs.declared.plan.Plan.{Plan}
 use Rattle.extend.specs.declared.plan.Plan.the-variants as plan
-use Rattle.extend.specs.Tests.{extendTests, planned}
+use Rattle.extend.specs.Tests.{planned}
 
 pub then-assoc : (a b c : Outcome) → ((a then b) then c) ≡ (a then (b then c))
 unfolding _then_
@@ -191,7 +191,7 @@ module _ (image : List ℕ) (id : FileId) (c : ℕ) where
   -- The outcome of extend is the verdict's, and then that of its tests.
   module _ (b h : ℕ) where
     outcome-is : extendOutcome image id c b h ≡ (verdict image b h then extendTests image id c)
-    unfolding extendOutcome extendTests
+    unfolding extendOutcome
     outcome-is = refl
 
     pub outcome-passed : verdict image b h ≡ outcome.Passed → extendOutcome image id c b h ≡ extendTests image id c

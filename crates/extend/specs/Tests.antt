@@ -16,16 +16,6 @@ use Rattle.update.specs.Extend.{isKnownNumber, isFixed, isCount, hasRoom, lastN
 use Rattle.extend.specs.declared.plan.Plan.{Plan}
 use Rattle.extend.specs.declared.plan.Plan.the-variants as plan
 
--- 01, Answer numbers: "6 to 12; then by number", of which extend has 22 to 26. Those of extend's tests that come after the verdict.
-unfoldable pub extendTests : List ℕ → FileId → ℕ → Outcome
-extendTests image id c =
-    openFile image id
-    then unless (not (isKnownNumber (id .number))) refusal.Known
-    then unless (not (isFixed (header image (id .number)))) refusal.Fixed
-    then unless (isCount c) refusal.Count
-    then unless (hasRoom (header image (lastNumber image (id .number)))) refusal.Full
-    then unless (hasRun image c) refusal.Run
-
 -- What tests come to: where they are passed, the LBN of the file's last header and the first of the new blocks.
 unfoldable pub planned : Outcome → ℕ → ℕ → Plan
 planned outcome.Passed last lbn = plan.To (record { 0 = last }) (record { 0 = lbn })

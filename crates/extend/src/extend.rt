@@ -12,8 +12,7 @@ ghost use lib.ListN.{length};
 ghost use Rattle.volume.specs.Opening.{Open};
 ghost use Rattle.verdict.specs.Verdict.{afterwards, headerMarks, blockMarks};
 ghost use Rattle.sound.specs.Sound.{Sound};
-ghost use Rattle.update.specs.Extend.{lastNumber, runStart, extended, extendAnswer, withBlocks, extendImage};
-ghost use Rattle.extend.specs.Tests.{extendTests};
+ghost use Rattle.update.specs.Extend.{lastNumber, runStart, extended, extendAnswer, withBlocks, extendImage, extendTests};
 
 // Extend on a volume that is judged.
 pub fn extend_on(image: &mut [u8], v: Volume, id: FileId, c: u32) -> Extended

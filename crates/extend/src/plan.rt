@@ -23,8 +23,8 @@ ghost use Rattle.answer.specs.Outcome.{unless, _then_};
 ghost use Rattle.volume.specs.Volume.{slot};
 ghost use Rattle.volume.specs.Opening.{Open};
 ghost use Rattle.file.specs.Chains.{goodChain, IsFirst};
-ghost use Rattle.update.specs.Extend.{isKnownNumber, isFixed, isCount, hasRoom, lastNumber, runStart, hasRun};
-ghost use Rattle.extend.specs.Tests.{extendTests, planned};
+ghost use Rattle.update.specs.Extend.{isKnownNumber, isFixed, isCount, hasRoom, lastNumber, runStart, hasRun, extendTests};
+ghost use Rattle.extend.specs.Tests.{planned};
 
 // What the tests come to.
 pub enum Plan {

@@ -19,9 +19,9 @@ use Rattle.file.specs.Chains.{chainOf}
 use Rattle.file.specs.Opening.{openFile}
 use Rattle.verdict.specs.Verdict.{verdict, afterwards}
 use Rattle.sound.proofs.ExactLaws.{verdict-judges}
-use Rattle.update.specs.Create.{freeNumber, newSequence, createOutcome, withFile, createImage}
-use Rattle.update.specs.Extend.{isKnownNumber, isFixed, isCount, hasRoom, lastNumber, runStart, hasRun, extendOutcome, withBlocks, extendImage}
-use Rattle.update.specs.Delete.{deleteOutcome, withoutNumbers, deleteImage}
+use Rattle.update.specs.Create.{freeNumber, newSequence, createTests, createOutcome, withFile, createImage}
+use Rattle.update.specs.Extend.{isKnownNumber, isFixed, isCount, hasRoom, lastNumber, runStart, hasRun, extendTests, extendOutcome, withBlocks, extendImage}
+use Rattle.update.specs.Delete.{deleteTests, deleteOutcome, withoutNumbers, deleteImage}
 use Rattle.update.proofs.Effects.{Good}
 
 -- The verdict passes a good image, with work areas that are long enough.
@@ -30,16 +30,16 @@ module _ (image : List ℕ) (g : Good image) (b h : ℕ) (room : blocks image �
   judged = verdict-judges image b h room rest .holds (opens-all image (g .opens), g .sound)
 
   pub create-done : (name : Name) → proper name ≡ true → freeNumber image ≤ fmax image → createOutcome image name b h ≡ Passed
-  unfolding createOutcome unless _then_
+  unfolding createOutcome createTests unless _then_
   create-done name named found = rw (judged, named, le-leb (freeNumber image) (fmax image) found)
 
   pub extend-done : (id : FileId) (c : ℕ) → openFile image id ≡ Passed → not (isKnownNumber (id .number)) ≡ true → not (isFixed (header image (id .number))) ≡ true
       → isCount c ≡ true → hasRoom (header image (lastNumber image (id .number))) ≡ true → hasRun image c ≡ true → extendOutcome image id c b h ≡ Passed
-  unfolding extendOutcome unless _then_
+  unfolding extendOutcome extendTests unless _then_
   extend-done id c opened unknown loose counted room run = rw (judged, opened, unknown, loose, counted, room, run)
 
   pub delete-done : (id : FileId) → openFile image id ≡ Passed → not (isKnownNumber (id .number)) ≡ true → deleteOutcome image id b h ≡ Passed
-  unfolding deleteOutcome unless _then_
+  unfolding deleteOutcome deleteTests unless _then_
   delete-done id opened unknown = rw (judged, opened, unknown)
 
 -- The sequence of a new file is above the last one of its number.

@@ -21,9 +21,9 @@ use Rattle.file.specs.Opening.{openFile}
 use Rattle.file.proofs.OpeningLaws.{Opened, opened}
 use Rattle.verdict.specs.Verdict.{verdict}
 use Rattle.sound.specs.Claims.{IsFile}
-use Rattle.update.specs.Create.{isSpare, freeNumber, createOutcome}
-use Rattle.update.specs.Extend.{isKnownNumber, isFixed, isCount, hasRoom, lastNumber, hasRun, extendOutcome}
-use Rattle.update.specs.Delete.{deleteOutcome}
+use Rattle.update.specs.Create.{isSpare, freeNumber, createTests, createOutcome}
+use Rattle.update.specs.Extend.{isKnownNumber, isFixed, isCount, hasRoom, lastNumber, hasRun, extendTests, extendOutcome}
+use Rattle.update.specs.Delete.{deleteTests, deleteOutcome}
 
 -- A number that create may take.
 pub record Spare (image : List ℕ) (n : ℕ) : Type 0 where
@@ -49,7 +49,7 @@ pub record CreatePassed (image : List ℕ) (name : Name) : Type 0 where
   pub spare : Spare image (freeNumber image)
 
 pub create-passed : (image : List ℕ) (name : Name) (b h : ℕ) → Opens image → createOutcome image name b h ≡ Passed → CreatePassed image name
-unfolding createOutcome freeNumber
+unfolding createOutcome createTests freeNumber
 create-passed image name b h o e =
     let judged = passed-then (verdict image b h) _ e in
     let named = passed-first (proper name) refusal.Name _ (judged .1) in
@@ -80,7 +80,7 @@ pub record DeletePassed (image : List ℕ) (id : FileId) : Type 0 where
   pub above : 6 ≤ id .number
 
 pub delete-passed : (image : List ℕ) (id : FileId) (b h : ℕ) → deleteOutcome image id b h ≡ Passed → DeletePassed image id
-unfolding deleteOutcome
+unfolding deleteOutcome deleteTests
 delete-passed image id b h e =
     let judged = passed-then (verdict image b h) _ e in
     let file = passed-then (openFile image id) _ (judged .1) in
@@ -100,7 +100,7 @@ pub record ExtendPassed (image : List ℕ) (id : FileId) (c : ℕ) : Type 0 wher
   pub run : hasRun image c ≡ true
 
 pub extend-passed : (image : List ℕ) (id : FileId) (c b h : ℕ) → extendOutcome image id c b h ≡ Passed → ExtendPassed image id c
-unfolding extendOutcome
+unfolding extendOutcome extendTests
 extend-passed image id c b h e =
     let judged = passed-then (verdict image b h) _ e in
     let file = passed-then (openFile image id) _ (judged .1) in

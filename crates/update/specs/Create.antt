@@ -31,13 +31,14 @@ freeNumber image = first (isSpare image) 6 (fmax image - 5)
 unfoldable pub newSequence : List ℕ → ℕ → ℕ
 newSequence image n = hFseq (header image n) + 1
 
--- 01, Answer numbers: "1 to 5; 16; 17 to 21 where judged; .. then by number", of which create has "14 NAME | not proper" and "27 NONUMBER | create finds
--- no n". The work areas have lengths b and h.
+-- 01, Answer numbers: "then by number", of which create has "14 NAME | not proper" and "27 NONUMBER | create finds no n". What create asks of a volume
+-- that is judged.
+unfoldable pub createTests : List ℕ → Name → Outcome
+createTests image name = unless (proper name) refusal.Name then unless (leb (freeNumber image) (fmax image)) refusal.Nonumber
+
+-- 01, Answer numbers: "1 to 5; 16; 17 to 21 where judged", and then these. The work areas have lengths b and h.
 unfoldable pub createOutcome : List ℕ → Name → ℕ → ℕ → Outcome
-createOutcome image name b h =
-    verdict image b h
-    then unless (proper name) refusal.Name
-    then unless (leb (freeNumber image) (fmax image)) refusal.Nonumber
+createOutcome image name b h = verdict image b h then createTests image name
 
 -- 01, Create: "Answer: the ID." Its third word is 0. 01, Volume V: "Create gives 7,1,0."
 unfoldable pub newId : List ℕ → FileId

@@ -20,10 +20,13 @@ use Rattle.update.specs.Writes.{putBlock, putMapBits, unusedBit, freeBit
 use Rattle.update.specs.Create.{indexBit}
 use Rattle.update.specs.Extend.{isKnownNumber}
 
--- 01, Answer numbers: "1 to 5; 16; 17 to 21 where judged; 6 to 12; then by number", of which delete has "22 KNOWN | extend or delete of 1 to 5". The work
--- areas have lengths b and h.
+-- 01, Answer numbers: "6 to 12; then by number", of which delete has "22 KNOWN | extend or delete of 1 to 5". What delete asks of a volume that is judged.
+unfoldable pub deleteTests : List ℕ → FileId → Outcome
+deleteTests image id = openFile image id then unless (not (isKnownNumber (id .number))) refusal.Known
+
+-- 01, Answer numbers: "1 to 5; 16; 17 to 21 where judged", and then these. The work areas have lengths b and h.
 unfoldable pub deleteOutcome : List ℕ → FileId → ℕ → ℕ → Outcome
-deleteOutcome image id b h = verdict image b h then openFile image id then unless (not (isKnownNumber (id .number))) refusal.Known
+deleteOutcome image id b h = verdict image b h then deleteTests image id
 
 -- 01, Answer numbers: DONE has as value "0 for delete".
 unfoldable pub deleted : Outcome → Deleted

@@ -54,16 +54,19 @@ runStart image c = lowestStart (storageMap image) (blocks image) c
 unfoldable pub hasRun : List ℕ → ℕ → Bool
 hasRun image c = ltb (runStart image c) (starts (blocks image) c)
 
--- 01, Answer numbers: "1 to 5; 16; 17 to 21 where judged; 6 to 12; then by number", of which extend has 22 to 26. The work areas have lengths b and h.
-unfoldable pub extendOutcome : List ℕ → FileId → ℕ → ℕ → ℕ → Outcome
-extendOutcome image id c b h =
-    verdict image b h
-    then openFile image id
+-- 01, Answer numbers: "6 to 12; then by number", of which extend has 22 to 26. What extend asks of a volume that is judged.
+unfoldable pub extendTests : List ℕ → FileId → ℕ → Outcome
+extendTests image id c =
+    openFile image id
     then unless (not (isKnownNumber (id .number))) refusal.Known
     then unless (not (isFixed (header image (id .number)))) refusal.Fixed
     then unless (isCount c) refusal.Count
     then unless (hasRoom (header image (lastNumber image (id .number)))) refusal.Full
     then unless (hasRun image c) refusal.Run
+
+-- 01, Answer numbers: "1 to 5; 16; 17 to 21 where judged", and then these. The work areas have lengths b and h.
+unfoldable pub extendOutcome : List ℕ → FileId → ℕ → ℕ → ℕ → Outcome
+extendOutcome image id c b h = verdict image b h then extendTests image id c
 
 -- 01, Answer numbers: DONE has as value the "first new LBN (extend)".
 unfoldable pub extended : Outcome → ℕ → Extended

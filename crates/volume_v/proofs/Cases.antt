@@ -29,35 +29,25 @@ use Rattle.marks.specs.Marks.{isSet}
 use Rattle.verdict.specs.Verdict.{verdict}
 use Rattle.runs.specs.Runs.{isFree, isRun, starts, lowestStart}
 use Rattle.update.specs.declared.answers.Extended.the-variants as answers
-use Rattle.update.specs.Extend.{isKnownNumber, isFixed, isCount, hasRoom, lastOf, lastNumber, runStart, hasRun, extendOutcome, extended, extendAnswer}
+use Rattle.update.specs.Extend.{isKnownNumber, isFixed, isCount, hasRoom, lastOf, lastNumber, runStart, hasRun, extendTests, extendOutcome, extended, extendAnswer}
 use Rattle.volume_v.specs.VolumeV.{words, join, homeBlock, indexMapBlock, headerBlock, endOfFile, storageMapBlock, directoryBlock, volumeV}
 use Rattle.volume_v.specs.Cases.{Cases, reads, dat, twoWords, file6}
 use Rattle.volume_v.proofs.Judged.{computed}
 
--- What extend comes to once the volume is judged.
-abbrev rest : ℕ → Outcome
-rest c =
-    openFile volumeV file6
-    then unless (not (isKnownNumber (file6 .number))) refusal.Known
-    then unless (not (isFixed (header volumeV (file6 .number)))) refusal.Fixed
-    then unless (isCount c) refusal.Count
-    then unless (hasRoom (header volumeV (lastNumber volumeV (file6 .number)))) refusal.Full
-    then unless (hasRun volumeV c) refusal.Run
-
-outcome : (c : ℕ) → extendOutcome volumeV file6 c 100 16 ≡ rest c
+outcome : (c : ℕ) → extendOutcome volumeV file6 c 100 16 ≡ extendTests volumeV file6 c
 unfolding extendOutcome
-outcome c = then-passed (verdict volumeV 100 16) (rest c) computed
+outcome c = then-passed (verdict volumeV 100 16) (extendTests volumeV file6 c) computed
 
-passes-4 : rest 4 ≡ Passed
-unfolding first checksum wordSum wordAt zeros below region block bitOf bitAt numbersFrom unless _then_ hIdof hMpof hFnum hFseq hFlev userFlags systemFlags mapArea segment mErvn mEfnu mEfsq mCtsz mLbsz mUse mMax pointerLbn pointerCount run runs pointersAt pointers blocksOf endsInside linkTests mapTests tests firstUnmet fault hIbsz hIblb hFmax hSbcl hVlev label labelAt isHome blocks position positions homeAt homeIndex home ibsz iblb fmax indexHeader index slot slots hasSlot header faultOf indexMap inUse isNumber mapBlocks sized homed indexMapBlocks geometry alone indexLbn indexAt indexMapped indexed storageMapped stored openVolume linksOn goodLink chain chainOf every linkOf goodChain flat fileBlocks find hasFlag locked access chained openFile words join homeBlock indexMapBlock headerBlock endOfFile storageMapBlock directoryBlock volumeV file6 base storageMap isSet isFree isRun starts lowestStart isKnownNumber isFixed isCount hasRoom lastOf lastNumber runStart hasRun
+passes-4 : extendTests volumeV file6 4 ≡ Passed
+unfolding first checksum wordSum wordAt zeros below region block bitOf bitAt numbersFrom unless _then_ hIdof hMpof hFnum hFseq hFlev userFlags systemFlags mapArea segment mErvn mEfnu mEfsq mCtsz mLbsz mUse mMax pointerLbn pointerCount run runs pointersAt pointers blocksOf endsInside linkTests mapTests tests firstUnmet fault hIbsz hIblb hFmax hSbcl hVlev label labelAt isHome blocks position positions homeAt homeIndex home ibsz iblb fmax indexHeader index slot slots hasSlot header faultOf indexMap inUse isNumber mapBlocks sized homed indexMapBlocks geometry alone indexLbn indexAt indexMapped indexed storageMapped stored openVolume linksOn goodLink chain chainOf every linkOf goodChain flat fileBlocks find hasFlag locked access chained openFile words join homeBlock indexMapBlock headerBlock endOfFile storageMapBlock directoryBlock volumeV file6 base storageMap isSet isFree isRun starts lowestStart isKnownNumber isFixed isCount hasRoom lastOf lastNumber runStart hasRun extendTests
 passes-4 = refl
 
 starts-4 : runStart volumeV 4 ≡ 26
-unfolding first checksum wordSum wordAt zeros below region block bitOf bitAt numbersFrom unless _then_ hIdof hMpof hFnum hFseq hFlev userFlags systemFlags mapArea segment mErvn mEfnu mEfsq mCtsz mLbsz mUse mMax pointerLbn pointerCount run runs pointersAt pointers blocksOf endsInside linkTests mapTests tests firstUnmet fault hIbsz hIblb hFmax hSbcl hVlev label labelAt isHome blocks position positions homeAt homeIndex home ibsz iblb fmax indexHeader index slot slots hasSlot header faultOf indexMap inUse isNumber mapBlocks sized homed indexMapBlocks geometry alone indexLbn indexAt indexMapped indexed storageMapped stored openVolume linksOn goodLink chain chainOf every linkOf goodChain flat fileBlocks find hasFlag locked access chained openFile words join homeBlock indexMapBlock headerBlock endOfFile storageMapBlock directoryBlock volumeV file6 base storageMap isSet isFree isRun starts lowestStart isKnownNumber isFixed isCount hasRoom lastOf lastNumber runStart hasRun
+unfolding first checksum wordSum wordAt zeros below region block bitOf bitAt numbersFrom unless _then_ hIdof hMpof hFnum hFseq hFlev userFlags systemFlags mapArea segment mErvn mEfnu mEfsq mCtsz mLbsz mUse mMax pointerLbn pointerCount run runs pointersAt pointers blocksOf endsInside linkTests mapTests tests firstUnmet fault hIbsz hIblb hFmax hSbcl hVlev label labelAt isHome blocks position positions homeAt homeIndex home ibsz iblb fmax indexHeader index slot slots hasSlot header faultOf indexMap inUse isNumber mapBlocks sized homed indexMapBlocks geometry alone indexLbn indexAt indexMapped indexed storageMapped stored openVolume linksOn goodLink chain chainOf every linkOf goodChain flat fileBlocks find hasFlag locked access chained openFile words join homeBlock indexMapBlock headerBlock endOfFile storageMapBlock directoryBlock volumeV file6 base storageMap isSet isFree isRun starts lowestStart isKnownNumber isFixed isCount hasRoom lastOf lastNumber runStart hasRun extendTests
 starts-4 = refl
 
-refuses-68 : rest 68 ≡ Refused refusal.Run
-unfolding first checksum wordSum wordAt zeros below region block bitOf bitAt numbersFrom unless _then_ hIdof hMpof hFnum hFseq hFlev userFlags systemFlags mapArea segment mErvn mEfnu mEfsq mCtsz mLbsz mUse mMax pointerLbn pointerCount run runs pointersAt pointers blocksOf endsInside linkTests mapTests tests firstUnmet fault hIbsz hIblb hFmax hSbcl hVlev label labelAt isHome blocks position positions homeAt homeIndex home ibsz iblb fmax indexHeader index slot slots hasSlot header faultOf indexMap inUse isNumber mapBlocks sized homed indexMapBlocks geometry alone indexLbn indexAt indexMapped indexed storageMapped stored openVolume linksOn goodLink chain chainOf every linkOf goodChain flat fileBlocks find hasFlag locked access chained openFile words join homeBlock indexMapBlock headerBlock endOfFile storageMapBlock directoryBlock volumeV file6 base storageMap isSet isFree isRun starts lowestStart isKnownNumber isFixed isCount hasRoom lastOf lastNumber runStart hasRun
+refuses-68 : extendTests volumeV file6 68 ≡ Refused refusal.Run
+unfolding first checksum wordSum wordAt zeros below region block bitOf bitAt numbersFrom unless _then_ hIdof hMpof hFnum hFseq hFlev userFlags systemFlags mapArea segment mErvn mEfnu mEfsq mCtsz mLbsz mUse mMax pointerLbn pointerCount run runs pointersAt pointers blocksOf endsInside linkTests mapTests tests firstUnmet fault hIbsz hIblb hFmax hSbcl hVlev label labelAt isHome blocks position positions homeAt homeIndex home ibsz iblb fmax indexHeader index slot slots hasSlot header faultOf indexMap inUse isNumber mapBlocks sized homed indexMapBlocks geometry alone indexLbn indexAt indexMapped indexed storageMapped stored openVolume linksOn goodLink chain chainOf every linkOf goodChain flat fileBlocks find hasFlag locked access chained openFile words join homeBlock indexMapBlock headerBlock endOfFile storageMapBlock directoryBlock volumeV file6 base storageMap isSet isFree isRun starts lowestStart isKnownNumber isFixed isCount hasRoom lastOf lastNumber runStart hasRun extendTests
 refuses-68 = refl
 
 extend-4-is : extendAnswer volumeV file6 4 100 16 ≡ answers.Done (record { 0 = 26 })

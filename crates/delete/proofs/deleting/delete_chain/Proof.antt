@@ -1,5 +1,4 @@
 -- Each step is given what the steps before it left, and the three together are what delete does to the image.
-use mathlib.Core.Path.{_≡_}
 use mathlib.Core.List.{List}
 use Prim.Native.Nat.{ℕ}
 use native.Mathlib.Omega.{arith}

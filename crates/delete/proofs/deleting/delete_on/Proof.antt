@@ -11,7 +11,7 @@ use Rattle.answer.specs.declared.outcome.Outcome.the-variants.{Passed}
 use Rattle.answer.specs.Outcome.{_then_}
 use Rattle.file.specs.Opening.{find, access, chained, openFile}
 use Rattle.file.proofs.OpeningLaws.{opened}
-use Rattle.delete.specs.Deleting.{deleteTests}
+use Rattle.update.specs.Delete.{deleteTests}
 use Rattle.delete.proofs.OutcomeLaws.{open-row, tests-refused, tests-known, tests-passed, answer-refused, answer-done}
 use Rattle.delete.proofs.deleting.delete_on.Statement.{statement}
 use Rattle.delete.proofs.deleting.delete_on.Tie as tie

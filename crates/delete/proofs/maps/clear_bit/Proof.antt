@@ -1,5 +1,4 @@
--- The part that is lent is the map.
-use mathlib.Core.List.{[], _∷_}
+-- The part that is lent is the map, and comes back with the bits put.
 use Prim.Native.Nat.{_+_, _*_, _-_}
 use native.Mathlib.Omega.{arith}
 use denote.Ref.{now}
@@ -13,7 +12,7 @@ returns : tie.Need-returns
 unfolding putBits
 returns c =
     let a = c .before .before .before .before .before .args in
-    part-bits (now (a .image)) (a .k) (a .q) (omega arith) (512 * a .k + 512 * a .q - 512 * a .k) (a .j ∷ []) 0 _ (omega arith) (c .before .before .put-bit .ensures)
+    part-bits (now (a .image)) (a .k) (a .q) (omega arith) (512 * a .k + 512 * a .q - 512 * a .k) _ _ _ (omega arith) (c .before .before .put-bit .ensures)
 
 pub clear-bit-spec : {M : Type 1} → statement M
 clear-bit-spec = tie.close (tie.spec (search needs) (search needs) (search needs) (search needs) (search needs) (search needs) (search needs) (search needs) returns)

@@ -1,8 +1,7 @@
--- The part that is lent is the map.
+-- The part that is lent is the map, and comes back with the bits put.
 use Prim.Native.Nat.{_+_, _*_, _-_}
 use native.Mathlib.Omega.{arith}
 use denote.Ref.{now}
-use Rattle.image.specs.Stores.{numbersFrom}
 use borrow.Author.Needs.{needs}
 use Rattle.delete.proofs.StepLaws.{part-bits}
 use Rattle.delete.proofs.maps.set_run.Statement.{statement}
@@ -11,7 +10,7 @@ use Rattle.delete.proofs.maps.set_run.Tie as tie
 returns : tie.Need-returns
 returns c =
     let a = c .before .before .before .before .before .args in
-    part-bits (now (a .image)) (a .k) (a .q) (omega arith) (512 * a .k + 512 * a .q - 512 * a .k) (numbersFrom (a .s) (a .c)) 1 _ (omega arith) (c .before .before .put-run .ensures)
+    part-bits (now (a .image)) (a .k) (a .q) (omega arith) (512 * a .k + 512 * a .q - 512 * a .k) _ _ _ (omega arith) (c .before .before .put-run .ensures)
 
 pub set-run-spec : {M : Type 1} → statement M
 set-run-spec = tie.close (tie.spec (search needs) (search needs) (search needs) (search needs) (search needs) (search needs) (search needs) (search needs) returns)

@@ -1,10 +1,9 @@
 -- After i turns the bits of the first i numbers are clear.
-use mathlib.Core.Path.{_≡_, refl, sym, ap, _∙_}
-use mathlib.Core.List.{[], _∷_}
+use mathlib.Core.Path.{_≡_, refl, sym, _∙_}
 use Prim.Native.Nat.{_-_, _≤_}
 use native.Mathlib.Omega.{arith}
 use denote.Ref.{now}
-use lib.ListN.{length, getD, take}
+use lib.ListN.{length, take}
 use borrow.Author.Needs.{needs}
 use Rattle.update.specs.Writes.{putMapBits}
 use Rattle.update.specs.Delete.{indexBits}
@@ -26,7 +25,7 @@ loop-holds c =
 sub-clear-bit : tie.Need-sub-clear-bit Inv-loop μ-loop
 sub-clear-bit c =
     let l = c .before .before in
-    l .before .before .pre .2 .each (l .loop .i) (omega arith) .0
+    omega (arith, l .before .before .pre .2 .each (l .loop .i) (omega arith))
 
 clear-bit-requires : tie.Need-clear-bit-requires Inv-loop μ-loop
 clear-bit-requires c κs =

@@ -1,9 +1,9 @@
 -- After i turns the first i slots are cleared.
-use mathlib.Core.Path.{_≡_, refl, sym, ap, _∙_}
+use mathlib.Core.Path.{_≡_, refl, sym, _∙_}
 use Prim.Native.Nat.{_-_, _≤_}
 use native.Mathlib.Omega.{arith}
 use denote.Ref.{now}
-use lib.ListN.{length, getD, take}
+use lib.ListN.{length, take}
 use borrow.Author.Needs.{needs}
 use Rattle.update.specs.Delete.{clearSlots}
 use Rattle.delete.proofs.StepLaws.{clear-none, clear-more}

@@ -7,10 +7,9 @@ use denote.Ref.{now}
 use borrow.Author.Needs.{needs}
 use Rattle.volume.specs.Volume.{slot}
 use Rattle.volume.proofs.VolumeLaws.{opens}
-use Rattle.update.specs.Extend.{lastNumber, runStart}
+use Rattle.update.specs.Extend.{lastNumber, runStart, extendTests}
 use Rattle.update.proofs.Effects.{Good}
 use Rattle.extend.specs.declared.plan.Plan.the-variants as plan
-use Rattle.extend.specs.Tests.{extendTests}
 use Rattle.extend.proofs.TestLaws.{Plans, plans, tests-passed, answer-done, answer-refused, image-done, image-refused}
 use Rattle.extend.proofs.TakeLaws.{takes, taken}
 use Rattle.extend.proofs.extend.extend_on.Statement.{statement}
