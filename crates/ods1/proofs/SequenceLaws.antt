@@ -15,6 +15,10 @@ use Rattle.file.proofs.OpeningLaws.{opened}
 use Rattle.file.proofs.MappingLaws.{map-refused}
 use Rattle.directory.specs.LookUp.{lookUp, nextRecord}
 use Rattle.directory.proofs.LookUpLaws.{look-refused, next-refused}
+use Rattle.update.specs.Extend.{extendOutcome, extended, extendAnswer}
+use Rattle.update.specs.Delete.{deleteOutcome, deleted, deleteAnswer}
+use Rattle.update.proofs.PassedLaws.{extend-passed, delete-passed}
+use Rattle.ods1.specs.Changing.{extendedWords, deletedWords}
 use Rattle.ods1.specs.Reading.{openedFileWords, mappedWords, blockWords, foundWords, steppedWords}
 use Rattle.ods1.specs.Sequence.{OtherSequence, IsRefused, SequenceAsked}
 
@@ -47,6 +51,22 @@ module _ (image : List ℕ) (id : FileId) (other : OtherSequence image id) where
   stepped-refused : (place : ℕ) → IsRefused (steppedWords (nextRecord image id place))
   stepped-refused place = rw (next-refused image id place (refuses .why) (refuses .is)) (refused-number refusal.Absent)
 
+  extended-refused : (count b h : ℕ) → IsRefused (extendedWords (extendAnswer image id count b h))
+  unfolding extendAnswer extended
+  extended-refused count b h = go (extendOutcome image id count b h) refl
+    where
+      go : (o : Outcome) → extendOutcome image id count b h ≡ o → IsRefused (extendedWords (extendAnswer image id count b h))
+      go Passed e = absurd (other (extend-passed image id count b h e .opens .found .sequence))
+      go (Refused r) e = rw e (refused-number r)
+
+  deleted-refused : (b h : ℕ) → IsRefused (deletedWords (deleteAnswer image id b h))
+  unfolding deleteAnswer deleted
+  deleted-refused b h = go (deleteOutcome image id b h) refl
+    where
+      go : (o : Outcome) → deleteOutcome image id b h ≡ o → IsRefused (deletedWords (deleteAnswer image id b h))
+      go Passed e = absurd (other (delete-passed image id b h e .opens .found .sequence))
+      go (Refused r) e = rw e (refused-number r)
+
 pub sequence-asked : SequenceAsked
 sequence-asked = record {
   open-file = open-refused;
@@ -54,4 +74,6 @@ sequence-asked = record {
   block = λ image id vbn other. block-refused image id other vbn;
   look-up = λ image id name other. found-refused image id other name;
   next-record = λ image id place other. stepped-refused image id other place;
+  extend = λ image id count b h other. extended-refused image id other count b h;
+  delete = λ image id b h other. deleted-refused image id other b h;
 }

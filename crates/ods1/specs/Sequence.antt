@@ -1,6 +1,5 @@
 -- The claim that the product stands for: an ID with another sequence number than the header's reads nothing.
--- Demand 2: "A call that opens, reads or changes a file by an ID whose sequence number is not the header's is refused." The calls that change a file
--- are not built yet.
+-- Demand 2: "A call that opens, reads or changes a file by an ID whose sequence number is not the header's is refused."
 use mathlib.Core.Path.{_≡_}
 use mathlib.Core.List.{List}
 use Prim.Native.Nat.{ℕ}
@@ -12,6 +11,9 @@ use Rattle.volume.specs.Volume.{header}
 use Rattle.file.specs.Opening.{openAnswer}
 use Rattle.file.specs.Mapping.{mapAnswer}
 use Rattle.directory.specs.LookUp.{lookUp, nextRecord}
+use Rattle.update.specs.Extend.{extendAnswer}
+use Rattle.update.specs.Delete.{deleteAnswer}
+use Rattle.ods1.specs.Changing.{extendedWords, deletedWords}
 use Rattle.ods1.specs.Reading.{openedFileWords, mappedWords, blockWords, foundWords, steppedWords}
 
 -- The sequence number of the ID is not H.FSEQ of the header in the slot of its number.
@@ -22,10 +24,12 @@ OtherSequence image id = hFseq (header image (id .number)) ≡ id .sequence → 
 abbrev pub IsRefused : List ℕ → Type 0
 IsRefused words = getD words 0 0 ≡ 0 → ⊥
 
--- On every image, each exported call that reads a file by such an ID is refused.
+-- On every image, each exported call that reads or changes a file by such an ID is refused. The work areas have lengths b and h.
 pub record SequenceAsked : Type 0 where
   pub open-file : (image : List ℕ) (id : FileId) → OtherSequence image id → IsRefused (openedFileWords (openAnswer image id))
   pub map : (image : List ℕ) (id : FileId) (vbn : ℕ) → OtherSequence image id → IsRefused (mappedWords (mapAnswer image id vbn))
   pub block : (image : List ℕ) (id : FileId) (vbn : ℕ) → OtherSequence image id → IsRefused (blockWords (mapAnswer image id vbn))
   pub look-up : (image : List ℕ) (id : FileId) (name : Name) → OtherSequence image id → IsRefused (foundWords (lookUp image id name))
   pub next-record : (image : List ℕ) (id : FileId) (place : ℕ) → OtherSequence image id → IsRefused (steppedWords (nextRecord image id place))
+  pub extend : (image : List ℕ) (id : FileId) (count b h : ℕ) → OtherSequence image id → IsRefused (extendedWords (extendAnswer image id count b h))
+  pub delete : (image : List ℕ) (id : FileId) (b h : ℕ) → OtherSequence image id → IsRefused (deletedWords (deleteAnswer image id b h))

@@ -1,5 +1,6 @@
 // The exported calls: thin functions over the public calls of the crates below. Each writes its answer as twelve words: number,
 // place and ten value words.
+pub mod changes;
 pub mod directories;
 pub mod files;
 pub mod names;

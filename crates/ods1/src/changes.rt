@@ -1,0 +1,162 @@
+// Calls that change a volume: create, extend and delete.
+use answer::types::FileId;
+use answer::types::Name;
+use answer::words::put_done;
+use answer::words::put_refused;
+use create::create::create;
+use delete::deleting::delete;
+use extend::extend::extend;
+use update::answers::Created;
+use update::answers::Deleted;
+use update::answers::Extended;
+ghost use mathlib.Core.Path.{_≡_};
+ghost use lib.ListN.{length};
+ghost use Rattle.verdict.specs.Verdict.{headerMarks, blockMarks};
+ghost use Rattle.update.specs.Create.{createAnswer, createImage};
+ghost use Rattle.update.specs.Extend.{extendAnswer, extendImage};
+ghost use Rattle.update.specs.Delete.{deleteAnswer, deleteImage};
+ghost use Rattle.ods1.specs.Names.{ofWords};
+ghost use Rattle.ods1.specs.Reading.{idOf};
+ghost use Rattle.ods1.specs.Changing.{createdWords, extendedWords, deletedWords};
+
+// The words of what create answers.
+fn put_created(answer: &mut [u64; 12], created: Created)
+    ensures { λ _. ⌜ now (answer .exit) ≡ createdWords created ⌝ }
+{
+    match created {
+        Created::Done(id) => {
+            let number = id.number;
+            let sequence = id.sequence;
+            let volume = id.volume;
+            put_done(
+                answer,
+                [
+                    number as u64,
+                    sequence as u64,
+                    volume as u64,
+                    0,
+                    0,
+                    0,
+                    0,
+                    0,
+                    0,
+                    0,
+                ],
+            );
+        }
+        Created::Refused(r) => {
+            put_refused(answer, r);
+        }
+    }
+}
+
+// The words of what extend answers.
+fn put_extended(answer: &mut [u64; 12], extended: Extended)
+    ensures { λ _. ⌜ now (answer .exit) ≡ extendedWords extended ⌝ }
+{
+    match extended {
+        Extended::Done(lbn) => {
+            let first = lbn.0;
+            put_done(answer, [first as u64, 0, 0, 0, 0, 0, 0, 0, 0, 0]);
+        }
+        Extended::Refused(r) => {
+            put_refused(answer, r);
+        }
+    }
+}
+
+// The words of what delete answers.
+fn put_deleted(answer: &mut [u64; 12], deleted: Deleted)
+    ensures { λ _. ⌜ now (answer .exit) ≡ deletedWords deleted ⌝ }
+{
+    match deleted {
+        Deleted::Done => {
+            put_done(answer, [0, 0, 0, 0, 0, 0, 0, 0, 0, 0]);
+        }
+        Deleted::Refused(r) => {
+            put_refused(answer, r);
+        }
+    }
+}
+
+// A new file of no blocks, by its name, owner and protection: its ID.
+#[no_mangle]
+pub extern "C" fn ods1_create(
+    image: &mut [u8],
+    name1: u16,
+    name2: u16,
+    name3: u16,
+    typ: u16,
+    version: u16,
+    owner: u16,
+    protection: u16,
+    blocks: &mut [u8],
+    headers: &mut [u8],
+    answer: &mut [u64; 12],
+)
+    ensures { λ _. ⌜ (now (answer .exit) ≡ createdWords (createAnswer (now (image .entry)) (ofWords name1 name2 name3 typ version) (length (now (blocks .entry))) (length (now (headers .entry)))))
+        × (now (image .exit) ≡ createImage (now (image .entry)) (ofWords name1 name2 name3 typ version) owner protection (length (now (blocks .entry))) (length (now (headers .entry))))
+        × (now (blocks .exit) ≡ blockMarks (now (image .entry)) (now (blocks .entry)) (now (headers .entry)))
+        × (now (headers .exit) ≡ headerMarks (now (image .entry)) (now (blocks .entry)) (now (headers .entry))) ⌝ }
+{
+    let name = Name {
+        name1,
+        name2,
+        name3,
+        typ,
+        version,
+    };
+    let created = create(image, name, owner, protection, blocks, headers);
+    put_created(answer, created);
+}
+
+// A file with so many blocks more, in a row: the first of them.
+#[no_mangle]
+pub extern "C" fn ods1_extend(
+    image: &mut [u8],
+    number: u16,
+    sequence: u16,
+    volume: u16,
+    count: u32,
+    blocks: &mut [u8],
+    headers: &mut [u8],
+    answer: &mut [u64; 12],
+)
+    ensures { λ _. ⌜ (now (answer .exit) ≡ extendedWords (extendAnswer (now (image .entry)) (idOf number sequence volume) count (length (now (blocks .entry))) (length (now (headers .entry)))))
+        × (now (image .exit) ≡ extendImage (now (image .entry)) (idOf number sequence volume) count (length (now (blocks .entry))) (length (now (headers .entry))))
+        × (now (blocks .exit) ≡ blockMarks (now (image .entry)) (now (blocks .entry)) (now (headers .entry)))
+        × (now (headers .exit) ≡ headerMarks (now (image .entry)) (now (blocks .entry)) (now (headers .entry))) ⌝ }
+{
+    let id = FileId {
+        number,
+        sequence,
+        volume,
+    };
+    let extended = extend(image, id, count, blocks, headers);
+    put_extended(answer, extended);
+}
+
+// A file given up: its numbers, its slots and its blocks.
+#[no_mangle]
+pub extern "C" fn ods1_delete(
+    image: &mut [u8],
+    number: u16,
+    sequence: u16,
+    volume: u16,
+    blocks: &mut [u8],
+    headers: &mut [u8],
+    answer: &mut [u64; 12],
+)
+    ensures { λ _. ⌜ (now (answer .exit) ≡ deletedWords (deleteAnswer (now (image .entry)) (idOf number sequence volume) (length (now (blocks .entry))) (length (now (headers .entry)))))
+        × (now (image .exit) ≡ deleteImage (now (image .entry)) (idOf number sequence volume) (length (now (blocks .entry))) (length (now (headers .entry))))
+        × (now (blocks .exit) ≡ blockMarks (now (image .entry)) (now (blocks .entry)) (now (headers .entry)))
+        × (now (headers .exit) ≡ headerMarks (now (image .entry)) (now (blocks .entry)) (now (headers .entry))) ⌝ }
+{
+    let id = FileId {
+        number,
+        sequence,
+        volume,
+    };
+    let deleted = delete(image, id, blocks, headers);
+    put_deleted(answer, deleted);
+}
