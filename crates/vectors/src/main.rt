@@ -1,17 +1,17 @@
-// Runs the worked examples of 01 that are not marked P and need only reading, and prints each answer. Volume V is read from standard input.
-use image::stores::put_word;
-use image::sums::checksum;
+// Runs the worked examples of 01 that are not marked P, and those of extend that are, and prints each answer. Volume V is read from standard input.
 use libc::STDIN_FILENO;
 use libc::STDOUT_FILENO;
+use ods1::changes::ods1_create;
+use ods1::changes::ods1_delete;
+use ods1::changes::ods1_extend;
 use ods1::directories::ods1_look_up;
 use ods1::directories::ods1_next_record;
 use ods1::files::ods1_block;
 use ods1::files::ods1_map;
 use ods1::files::ods1_open_file;
+use ods1::verdicts::ods1_judge;
 use ods1::volumes::ods1_open_volume;
 use volume::volume::map_blocks;
-ghost use mathlib.Core.Path.{_≡_};
-ghost use lib.ListN.{length};
 
 // Writes text.
 fn say(text: &[u8]) {
@@ -141,29 +141,96 @@ fn directory(image: &[u8]) {
     next_record(image, 1);
 }
 
-// Makes header 6 that of a file of sequence 10 with no blocks: what deleting 6,9 and creating a file leave in its slot, but for the new file's name.
-fn use_again(h: &mut [u8])
-    requires { ⌜ length (now h) ≡ 512 ⌝ }
-{
-    put_word(h, 4, 10);
-    put_word(h, 100, 52224);
-    put_word(h, 102, 0);
-    put_word(h, 104, 0);
-    put_word(h, 106, 0);
-    put_word(h, 108, 0);
-    let sum = checksum(h, 255);
-    put_word(h, 510, sum);
+// Extends a file, with work areas of 100 and 16 bytes: as many as Volume V has blocks and file numbers.
+fn extend(image: &mut [u8], number: u16, sequence: u16, count: u32) {
+    let mut answer = [0u64; 12];
+    let mut blocks = [0u8; 100];
+    let mut headers = [0u8; 16];
+    ods1_extend(
+        image,
+        number,
+        sequence,
+        0,
+        count,
+        &mut blocks,
+        &mut headers,
+        &mut answer,
+    );
+    say(b"extend");
+    tell_id(number, sequence);
+    say(b" by ");
+    tell(count as u64);
+    show(&answer);
 }
 
-// The user's story: file number 6 is used again, and the old entry still names 6,9.
-fn old_entry(image: &mut [u8])
-    requires { ⌜ length (now image) ≡ 51200 ⌝ }
-{
-    say(b"file number 6 is used again\n");
-    use_again(&mut image[4096..4608]);
+// Creates READS.DAT;2, with owner and protection 0.
+fn create(image: &mut [u8]) {
+    let mut answer = [0u64; 12];
+    let mut blocks = [0u8; 100];
+    let mut headers = [0u8; 16];
+    ods1_create(
+        image,
+        29001,
+        7160,
+        0,
+        6460,
+        2,
+        0,
+        0,
+        &mut blocks,
+        &mut headers,
+        &mut answer,
+    );
+    say(b"create READS.DAT;2");
+    show(&answer);
+}
+
+fn delete(image: &mut [u8], number: u16, sequence: u16) {
+    let mut answer = [0u64; 12];
+    let mut blocks = [0u8; 100];
+    let mut headers = [0u8; 16];
+    ods1_delete(
+        image,
+        number,
+        sequence,
+        0,
+        &mut blocks,
+        &mut headers,
+        &mut answer,
+    );
+    say(b"delete");
+    tell_id(number, sequence);
+    show(&answer);
+}
+
+fn judge(image: &[u8]) {
+    let mut answer = [0u64; 12];
+    let mut blocks = [0u8; 100];
+    let mut headers = [0u8; 16];
+    ods1_judge(image, &mut blocks, &mut headers, &mut answer);
+    say(b"judge");
+    show(&answer);
+}
+
+// Extends 6,9 and tells what it then has.
+fn extend_and_judge(image: &mut [u8], count: u32) {
+    extend(image, 6, 9, count);
+    open_file(image, 6, 9);
+    map(image, 6, 9, 4);
+    judge(image);
+}
+
+// The user's story: 6,9 is deleted and its number used again, and the old entry still names 6,9.
+fn old_entry(image: &mut [u8]) {
+    delete(image, 6, 9);
+    open_file(image, 6, 9);
+    create(image);
     look_up(image);
     open_file(image, 6, 9);
     open_file(image, 6, 10);
+    extend(image, 6, 9, 1);
+    delete(image, 6, 9);
+    judge(image);
 }
 
 fn main() {
@@ -175,6 +242,16 @@ fn main() {
     open_volume(&image);
     covers(&image);
     directory(&image);
+    let mut by4 = image;
+    extend_and_judge(&mut by4, 4);
+    let mut by67 = image;
+    extend_and_judge(&mut by67, 67);
+    let mut by68 = image;
+    extend_and_judge(&mut by68, 68);
+    let mut created = image;
+    create(&mut created);
+    open_file(&created, 7, 1);
+    judge(&created);
     old_entry(&mut image);
     storage_map_of(516096);
     storage_map_of(1044480);
