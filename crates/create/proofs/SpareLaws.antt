@@ -1,26 +1,20 @@
 -- Laws of spare file numbers.
-use mathlib.Core.Path.{_≡_, ap, _∙_}
-use mathlib.Core.Bool.{true, false, not, _&&_, and-false, and-eq-true-iff}
+use mathlib.Core.Path.{_≡_}
+use mathlib.Core.Bool.{true, false, and-false}
 use mathlib.Core.List.{List}
 use Prim.Native.Nat.{ℕ, _-_, _≤_, _<_}
 use native.Mathlib.Decide.{decLt}
 use native.Mathlib.Omega.{arith}
-use borrow.Author.Tests.{lt-leb, le-leb, leb-true, ltb-true}
+use borrow.Author.Tests.{lt-leb, le-leb}
 use lib.Dec.{ltb}
 use Rattle.image.specs.First.{first}
-use Rattle.image.proofs.First.{first-has, first-is}
+use Rattle.image.proofs.First.{first-is}
 use Rattle.header.specs.Fields.{hFseq}
-use Rattle.volume.specs.Volume.{fmax, slot, slots, hasSlot, header, inUse}
+use Rattle.volume.specs.Volume.{slot, slots, hasSlot, header, inUse}
 use Rattle.slots.specs.declared.slots.SlotRun.{SlotRun}
 use Rattle.slots.specs.Slots.{Stands}
 use Rattle.slots.proofs.SlotLaws.{stands-at}
-use Rattle.update.specs.Create.{isSpare, freeNumber}
-
--- What is known of a number that create takes.
-pub record Spare (image : List ℕ) (n : ℕ) : Type 0 where
-  pub low : 6 ≤ n
-  pub slotted : n ≤ slots image
-  pub word : hFseq (header image n) < 65535
+use Rattle.update.specs.Create.{isSpare}
 
 module _ (image : List ℕ) where
   -- A number in use is not spare, nor is one without a slot; any other is by the word of its slot.
@@ -41,17 +35,6 @@ module _ (image : List ℕ) where
   spare-none n e l h =
       first-is (isSpare image) n (e - n) e
       (record { low = h; high = omega arith; before = λ i a b. spare-past i (omega arith); here = λ z. absurd (omega arith) })
-
-  -- The lowest that there is, where it is no higher than H.FMAX.
-  pub free-spare : (n : ℕ) → n ≡ freeNumber image → n ≤ fmax image → Spare image n
-  unfolding freeNumber isSpare hasSlot
-  free-spare n e l =
-      let f = first-has (isSpare image) 6 (fmax image - 5) in
-      let low : 6 ≤ n = omega (arith, e, f .low) in
-      let t : isSpare image n ≡ true = ap (isSpare image) e ∙ f .here (omega (arith, e)) in
-      let both = and-eq-true-iff (not (inUse image n) && hasSlot image n) (ltb (hFseq (header image n)) 65535) .0 t in
-      let slot = and-eq-true-iff (not (inUse image n)) (hasSlot image n) .0 (both .0) .1 in
-      record { low = low; slotted = leb-true n (slots image) slot; word = ltb-true (hFseq (header image n)) 65535 (both .1) }
 
   -- A walk over the slots that stands at a number with a slot has it at hand.
   pub slot-stands : (n : ℕ) (run : SlotRun) → Stands image n run → n ≤ slots image → slot image n ≡ run .lbn .0

@@ -1,7 +1,7 @@
 -- What storing needs, of an image that is sound and passes extend's tests.
 use mathlib.Core.Path.{_≡_}
-use mathlib.Core.Bool.{true, and-eq-true-iff}
-use mathlib.Core.List.{List, [], _∷_}
+use mathlib.Core.Bool.{true}
+use mathlib.Core.List.{List}
 use Prim.Native.Nat.{ℕ, _+_, _≤_, _<_}
 use native.Mathlib.Omega.{arith}
 use borrow.Author.Tests.{leb-true}
@@ -11,45 +11,30 @@ use Rattle.answer.specs.declared.types.FileId.{FileId}
 use Rattle.header.specs.Fields.{mUse, mMax}
 use Rattle.header.proofs.WholeLaws.{whole-is}
 use Rattle.volume.specs.Home.{blocks}
-use Rattle.volume.specs.Volume.{slot, header, faultOf, inUse, hasSlot, isNumber, mapBlocks, base}
+use Rattle.volume.specs.Volume.{slot, header, faultOf, inUse, mapBlocks, base}
 use Rattle.volume.proofs.VolumeLaws.{Opens, slot-below, base-fits}
-use Rattle.file.specs.Chains.{chainOf}
-use Rattle.marks.specs.Counts.{In}
-use Rattle.marks.proofs.CountLaws.{count-none}
 use Rattle.slots.proofs.SlotLaws.{used-range}
-use Rattle.sound.proofs.MemberLaws.{in-here, in-tail, chain-head}
 use Rattle.sound.proofs.ChainLaws.{member-used}
 use Rattle.edits.specs.Extended.{extendedHeader}
 use Rattle.update.specs.Writes.{putBlock, putMapBits}
-use Rattle.update.specs.Extend.{hasRoom, lastOf, lastNumber, runStart, withBlocks}
+use Rattle.update.specs.Extend.{hasRoom, lastNumber, runStart, withBlocks}
 use Rattle.update.proofs.Effects.{Good}
 use Rattle.update.proofs.FrameLaws.{slot-clear}
 use Rattle.update.proofs.WriteLaws.{putMapBits-outside}
 use Rattle.update.proofs.ExtendLaws.{count-range, run-fits}
+use Rattle.update.proofs.PassedLaws.{ExtendPassed}
+use Rattle.update.proofs.LastLaws.{last-member}
 use Rattle.extend.specs.Tests.{Takes}
-use Rattle.extend.proofs.TestLaws.{Passes}
 
--- The last of a list that has a member is a member.
-last-in : (n : ℕ) (l : List ℕ) (x : ℕ) → In x l → In (lastOf n l) l
-unfolding lastOf
-last-in n [] x m = absurd (omega (arith, count-none x))
-last-in n (y ∷ []) x m = in-here y []
-last-in n (y ∷ z ∷ l) x m = in-tail (lastOf z l) y (z ∷ l) (last-in y (z ∷ l) z (in-here z l))
-
-module _ (image : List ℕ) (g : Good image) (id : FileId) (c : ℕ) (p : Passes image id c) where
+module _ (image : List ℕ) (g : Good image) (id : FileId) (c : ℕ) (p : ExtendPassed image id c) where
   abbrev n : ℕ
   n = id .number
 
   abbrev last : ℕ
   last = lastNumber image n
 
-  used : inUse image n ≡ true
-  unfolding isNumber
-  used = and-eq-true-iff (inUse image n) (hasSlot image n) .0 (p .opens .found .first .0) .0
-
   last-used : inUse image last ≡ true
-  unfolding lastNumber chainOf
-  last-used = member-used image (g .sound) n (record { used = used; first = p .opens .found .first .2 }) last (last-in n (chainOf image n) n (chain-head (header image) 255 n))
+  last-used = member-used image (g .sound) n (p .file) last (last-member image (g .bytes) (g .sound) n (p .file))
 
   pub takes : Takes image (slot image last) (runStart image c) c
   unfolding hasRoom header faultOf

@@ -12,13 +12,12 @@ use Rattle.answer.specs.declared.refusal.Refusal.the-variants as refusal
 use Rattle.answer.specs.declared.outcome.Outcome.{Outcome}
 use Rattle.answer.specs.declared.outcome.Outcome.the-variants as outcome
 use Rattle.answer.specs.Outcome.{unless, _then_}
-use Rattle.answer.proofs.OutcomeLaws.{then-passed, then-refused, passed-then, passed-last, passed-first}
+use Rattle.answer.proofs.OutcomeLaws.{then-passed, then-refused, passed-last, passed-first}
 use Rattle.header.specs.Fields.{userFlags}
 use Rattle.volume.specs.Home.{blocks}
 use Rattle.volume.specs.Volume.{slot, header, storageMap}
 use Rattle.volume.specs.Opening.{openVolume}
 use Rattle.file.specs.Opening.{hasFlag, find, access, chained, openFile}
-use Rattle.file.proofs.OpeningLaws.{Opened, opened}
 use Rattle.verdict.specs.Verdict.{verdict, afterwards}
 use Rattle.runs.specs.declared.Start.{Start}
 use Rattle.runs.specs.declared.Start.the-variants as starts
@@ -170,24 +169,7 @@ module _ (image : List ℕ) (id : FileId) (o : openVolume image ≡ outcome.Pass
       pub tests-rooms : admits (header image (id .number)) (id .number) c ≡ outcome.Passed → extendTests image id c ≡ rooms image (slot image (lastNumber image (id .number))) c
       tests-rooms a = rest ∙ then-passed (admits (header image (id .number)) (id .number) c) last a
 
--- Where they are passed.
-pub record Passes (image : List ℕ) (id : FileId) (c : ℕ) : Type 0 where
-  pub opens : Opened image id
-  pub counted : isCount c ≡ true
-  pub room : hasRoom (header image (lastNumber image (id .number))) ≡ true
-  pub run : hasRun image c ≡ true
-
 module _ (image : List ℕ) (id : FileId) (c : ℕ) where
-  pub tests-passed : extendTests image id c ≡ outcome.Passed → Passes image id c
-  unfolding extendTests
-  tests-passed p =
-      let o = passed-then (openFile image id) _ p in
-      let k = passed-first (not (isKnownNumber (id .number))) refusal.Known _ (o .1) in
-      let f = passed-first (not (isFixed (header image (id .number)))) refusal.Fixed _ (k .1) in
-      let n = passed-first (isCount c) refusal.Count _ (f .1) in
-      let r = passed-first (hasRoom (header image (lastNumber image (id .number)))) refusal.Full _ (n .1) in
-      record { opens = opened image id (o .0); counted = n .0; room = r .0; run = passed-last (hasRun image c) refusal.Run (r .1) }
-
   -- The outcome of extend is the verdict's, and then that of its tests.
   module _ (b h : ℕ) where
     outcome-is : extendOutcome image id c b h ≡ (verdict image b h then extendTests image id c)

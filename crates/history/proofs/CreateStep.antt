@@ -37,13 +37,13 @@ module _ (image : List â„•) (g : Good image) (name : Name) (owner protection : â
   h = freshHeader n q owner protection name
 
   facts : CreatePassed image name
-  facts = create-passed image name (length area) (length headers) (g .opens) p
+  facts = create-passed image name (length area) (length headers) p
 
   pub creating : Creating image n q h
   unfolding newSequence
   creating = record {
     good = g;
-    low = facts .low;
+    low = facts .spare .low;
     has = facts .spare .has;
     high = facts .high;
     was = facts .spare .unused;

@@ -1,6 +1,6 @@
 -- What is known where no test of a call refuses it.
-use mathlib.Core.Path.{_≡_}
-use mathlib.Core.Bool.{true, false, not, _&&_, and-eq-true-iff}
+use mathlib.Core.Path.{_≡_, refl, ap, _∙_}
+use mathlib.Core.Bool.{true, false, not, and-eq-true-iff}
 use mathlib.Core.List.{List}
 use Prim.Native.Nat.{ℕ, _-_, _≤_, _<_}
 use native.Mathlib.Omega.{arith}
@@ -16,7 +16,6 @@ use Rattle.answer.proofs.OutcomeLaws.{passed-then, passed-first, passed-last}
 use Rattle.radix50.specs.Names.{proper}
 use Rattle.header.specs.Fields.{hFseq}
 use Rattle.volume.specs.Volume.{fmax, slots, hasSlot, header, inUse, isNumber}
-use Rattle.volume.proofs.VolumeLaws.{Opens}
 use Rattle.file.specs.Opening.{openFile}
 use Rattle.file.proofs.OpeningLaws.{Opened, opened}
 use Rattle.verdict.specs.Verdict.{verdict}
@@ -25,18 +24,24 @@ use Rattle.update.specs.Create.{isSpare, freeNumber, createTests, create
 use Rattle.update.specs.Extend.{isKnownNumber, isFixed, isCount, hasRoom, lastNumber, hasRun, extendTests, extendOutcome}
 use Rattle.update.specs.Delete.{deleteTests, deleteOutcome}
 
--- A number that create may take.
+-- A number that create takes.
 pub record Spare (image : List ℕ) (n : ℕ) : Type 0 where
+  pub low : 6 ≤ n
   pub unused : inUse image n ≡ false
   pub has : n ≤ slots image
   pub word : hFseq (header image n) < 65535
 
-pub spare-is : (image : List ℕ) (n : ℕ) → isSpare image n ≡ true → Spare image n
-unfolding isSpare hasSlot
-spare-is image n t =
-    let both = and-eq-true-iff (not (inUse image n) && leb n (slots image)) (ltb (hFseq (header image n)) 65535) .0 t in
-    let left = and-eq-true-iff (not (inUse image n)) (leb n (slots image)) .0 (both .0) in
+-- The lowest that there is, where it is no higher than H.FMAX.
+pub free-spare : (image : List ℕ) (n : ℕ) → n ≡ freeNumber image → n ≤ fmax image → Spare image n
+unfolding freeNumber isSpare hasSlot
+free-spare image n e l =
+    let f = first-has (isSpare image) 6 (fmax image - 5) in
+    let low : 6 ≤ n = omega (arith, e, f .low) in
+    let t : isSpare image n ≡ true = ap (isSpare image) e ∙ f .here (omega (arith, e)) in
+    let both = and-eq-true-iff _ (ltb (hFseq (header image n)) 65535) .0 t in
+    let left = and-eq-true-iff _ (leb n (slots image)) .0 (both .0) in
     record {
+      low = low;
       unused = not-true (inUse image n) (left .0);
       has = leb-true n (slots image) (left .1);
       word = ltb-true (hFseq (header image n)) 65535 (both .1);
@@ -44,23 +49,16 @@ spare-is image n t =
 
 pub record CreatePassed (image : List ℕ) (name : Name) : Type 0 where
   pub named : proper name ≡ true
-  pub low : 6 ≤ freeNumber image
   pub high : freeNumber image ≤ fmax image
   pub spare : Spare image (freeNumber image)
 
-pub create-passed : (image : List ℕ) (name : Name) (b h : ℕ) → Opens image → createOutcome image name b h ≡ Passed → CreatePassed image name
-unfolding createOutcome createTests freeNumber
-create-passed image name b h o e =
+pub create-passed : (image : List ℕ) (name : Name) (b h : ℕ) → createOutcome image name b h ≡ Passed → CreatePassed image name
+unfolding createOutcome createTests
+create-passed image name b h e =
     let judged = passed-then (verdict image b h) _ e in
     let named = passed-first (proper name) refusal.Name _ (judged .1) in
     let high = leb-true (freeNumber image) (fmax image) (passed-last (leb (freeNumber image) (fmax image)) refusal.Nonumber (named .1)) in
-    let is = first-has (isSpare image) 6 (fmax image - 5) in
-    record {
-      named = named .0;
-      low = is .low;
-      high = high;
-      spare = spare-is image (freeNumber image) (is .here (omega (arith, o .enough)));
-    }
+    record { named = named .0; high = high; spare = free-spare image (freeNumber image) refl high }
 
 -- A file that opens is a file.
 pub opened-file : (image : List ℕ) (id : FileId) → Opened image id → IsFile image (id .number)
@@ -99,11 +97,10 @@ pub record ExtendPassed (image : List ℕ) (id : FileId) (c : ℕ) : Type 0 wher
   pub room : hasRoom (header image (lastNumber image (id .number))) ≡ true
   pub run : hasRun image c ≡ true
 
-pub extend-passed : (image : List ℕ) (id : FileId) (c b h : ℕ) → extendOutcome image id c b h ≡ Passed → ExtendPassed image id c
-unfolding extendOutcome extendTests
-extend-passed image id c b h e =
-    let judged = passed-then (verdict image b h) _ e in
-    let file = passed-then (openFile image id) _ (judged .1) in
+pub extend-tested : (image : List ℕ) (id : FileId) (c : ℕ) → extendTests image id c ≡ Passed → ExtendPassed image id c
+unfolding extendTests
+extend-tested image id c e =
+    let file = passed-then (openFile image id) _ e in
     let above = passed-first (not (isKnownNumber (id .number))) refusal.Known _ (file .1) in
     let loose = passed-first (not (isFixed (header image (id .number)))) refusal.Fixed _ (above .1) in
     let counted = passed-first (isCount c) refusal.Count _ (loose .1) in
@@ -117,3 +114,7 @@ extend-passed image id c b h e =
       room = room .0;
       run = passed-last (hasRun image c) refusal.Run (room .1);
     }
+
+pub extend-passed : (image : List ℕ) (id : FileId) (c b h : ℕ) → extendOutcome image id c b h ≡ Passed → ExtendPassed image id c
+unfolding extendOutcome
+extend-passed image id c b h e = extend-tested image id c (passed-then (verdict image b h) (extendTests image id c) e .1)

@@ -11,7 +11,8 @@ use Rattle.volume.specs.Opening.{indexMapBlocks, Laid}
 use Rattle.volume.proofs.VolumeLaws.{Opens, opens, says, slot-below}
 use Rattle.slots.proofs.SlotLaws.{stands-read, opened-fmax}
 use Rattle.update.specs.Create.{newId, newSequence, withNumber, withFile}
-use Rattle.create.proofs.SpareLaws.{Spare, free-spare, slot-stands}
+use Rattle.update.proofs.PassedLaws.{Spare, free-spare}
+use Rattle.create.proofs.SpareLaws.{slot-stands}
 use Rattle.create.proofs.create.put_file.Statement.{statement}
 use Rattle.create.proofs.create.put_file.Tie as tie
 
@@ -42,10 +43,10 @@ module _ (h : tie.After-h-fseq) where
   stands = h .before .before .before
 
   word : h .h-fseq .result ≡ hFseq (header (image k) (n k))
-  word = h .h-fseq .ensures ∙ ap hFseq (h .before .block .ensures ∙ stands-read (image k) (n k) _ (stands .slot-run .ensures) (spare k .slotted))
+  word = h .h-fseq .ensures ∙ ap hFseq (h .before .block .ensures ∙ stands-read (image k) (n k) _ (stands .slot-run .ensures) (spare k .has))
 
   lbn : stands .slot-run .result .lbn .0 ≡ slot (image k) (n k)
-  lbn = sym (slot-stands (image k) (n k) _ (stands .slot-run .ensures) (spare k .slotted))
+  lbn = sym (slot-stands (image k) (n k) _ (stands .slot-run .ensures) (spare k .has))
 
 slot-run-requires : tie.Need-slot-run-requires
 slot-run-requires c κs = (c .before .before .pre .0, omega (arith, most (c .before), c .before .before .pre .2))
@@ -59,7 +60,7 @@ add-t17 c = omega (arith, word c, spare (k c) .word)
 put-header-requires : tie.Need-put-header-requires
 put-header-requires c κs =
     let h = c .before in
-    omega (arith, lbn h, slot-below (opened (k h)) (n (k h)) (omega (arith, spare (k h) .low)) (spare (k h) .slotted), opened (k h) .size)
+    omega (arith, lbn h, slot-below (opened (k h)) (n (k h)) (omega (arith, spare (k h) .low)) (spare (k h) .has), opened (k h) .size)
 
 set-index-bit-requires : tie.Need-set-index-bit-requires
 unfolding indexMapBlocks

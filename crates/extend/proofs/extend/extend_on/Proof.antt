@@ -9,8 +9,9 @@ use Rattle.volume.specs.Volume.{slot}
 use Rattle.volume.proofs.VolumeLaws.{opens}
 use Rattle.update.specs.Extend.{lastNumber, runStart, extendTests}
 use Rattle.update.proofs.Effects.{Good}
+use Rattle.update.proofs.PassedLaws.{extend-tested}
 use Rattle.extend.specs.declared.plan.Plan.the-variants as plan
-use Rattle.extend.proofs.TestLaws.{Plans, plans, tests-passed, answer-done, answer-refused, image-done, image-refused}
+use Rattle.extend.proofs.TestLaws.{Plans, plans, answer-done, answer-refused, image-done, image-refused}
 use Rattle.extend.proofs.TakeLaws.{takes, taken}
 use Rattle.extend.proofs.extend.extend_on.Statement.{statement}
 use Rattle.extend.proofs.extend.extend_on.Tie as tie
@@ -50,7 +51,7 @@ take-requires c κs =
     let t = c .before .before in
     let p = t .before .before in
     let a = start p .args in
-    (start p .pre .0, rw (told t .1, told t .2) (takes (image p) (good p) (a .id) (a .c) (tests-passed (image p) (a .id) (a .c) (told t .0))))
+    (start p .pre .0, rw (told t .1, told t .2) (takes (image p) (good p) (a .id) (a .c) (extend-tested (image p) (a .id) (a .c) (told t .0))))
 
 returns : tie.Need-returns
 returns c =
