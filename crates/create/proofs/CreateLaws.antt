@@ -1,4 +1,4 @@
--- Laws of create: what its tests come to, and what it answers and leaves where they refuse.
+-- Laws of create: what its tests come to, and what it answers where they refuse.
 use mathlib.Core.Path.{_≡_}
 use mathlib.Core.Bool.{true, false}
 use mathlib.Core.List.{List}
@@ -14,7 +14,7 @@ use Rattle.answer.specs.Outcome.{unless, _then_}
 use Rattle.answer.proofs.OutcomeLaws.{then-passed, then-refused}
 use Rattle.radix50.specs.Names.{proper}
 use Rattle.volume.specs.Volume.{fmax}
-use Rattle.verdict.specs.Verdict.{verdict, afterwards}
+use Rattle.verdict.specs.Verdict.{verdict}
 use Rattle.update.specs.declared.answers.Created.the-variants.{Refused}
 use Rattle.update.specs.Create.{freeNumber, createOutcome, created, createTests}
 
@@ -32,14 +32,10 @@ module _ (image : List ℕ) (name : Name) where
   unfolding createTests unless _then_
   tests-passed e l = rw (e, le-leb (freeNumber image) (fmax image) l)
 
--- What is answered and left where the tests refuse.
+-- What is answered where the tests refuse.
 pub answer-refused : (o : Outcome) (r : Refusal) (id : FileId) → o ≡ outcome.Refused r → Refused r ≡ created o id
 unfolding created
 answer-refused o r id e = rw e
-
-pub image-refused : (o : Outcome) (r : Refusal) (old new : List ℕ) → o ≡ outcome.Refused r → old ≡ afterwards o old new
-unfolding afterwards
-image-refused o r old new e = rw e
 
 -- The verdict comes first.
 module _ (image : List ℕ) (name : Name) (b h : ℕ) where

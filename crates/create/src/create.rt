@@ -8,22 +8,21 @@ use answer::types::Lbn;
 use answer::types::Name;
 use edits::fresh::put_fresh;
 use header::fields::h_fseq;
-use image::bits::put_bit;
 use image::blocks::block;
+use maps::put_map_bit;
 use radix50::is_proper;
 use slots::slots::slot_run;
 use update::answers::Created;
 use verdict::judging::judge_volume;
 use volume::volume::Volume;
 ghost use mathlib.Core.Path.{_≡_};
-ghost use mathlib.Core.List.{[], _∷_};
 ghost use Prim.Native.Nat.{_+_, _*_, _≤_};
 ghost use lib.ListN.{length};
 ghost use Rattle.volume.specs.Opening.{Open};
 ghost use Rattle.verdict.specs.Verdict.{afterwards, headerMarks, blockMarks};
 ghost use Rattle.edits.specs.Fresh.{freshHeader};
-ghost use Rattle.update.specs.Writes.{putBlock, putMapBits};
-ghost use Rattle.update.specs.Create.{freeNumber, newId, created, createAnswer, indexBit, withFile, createImage, createTests};
+ghost use Rattle.update.specs.Writes.{putBlock};
+ghost use Rattle.update.specs.Create.{freeNumber, newId, created, createAnswer, withFile, createImage, createTests};
 
 // The block with an LBN made the header of a new file.
 fn put_header(image: &mut [u8], lbn: Lbn, id: FileId, owner: u16, protection: u16, name: Name)
@@ -42,16 +41,6 @@ fn put_header(image: &mut [u8], lbn: Lbn, id: FileId, owner: u16, protection: u1
     );
 }
 
-// The bit of number n set in the index map.
-fn set_index_bit(image: &mut [u8], v: Volume, n: u32)
-    requires { ⌜ (1 ≤ n) × (n ≤ 4096 * v .ibsz) × (512 * (v .iblb + v .ibsz) ≤ length (now image)) ⌝ }
-    ensures { λ _. ⌜ now (image .exit) ≡ putMapBits (now (image .entry)) (v .iblb) (v .ibsz) (indexBit n ∷ []) 1 ⌝ }
-{
-    let from = 512 * (v.iblb as usize);
-    let to = from + 512 * (v.ibsz as usize);
-    put_bit(&mut image[from..to], (n - 1) as usize, 1);
-}
-
 // A new file under the number n: its header in the slot of n, and then the index bit of n.
 fn put_file(image: &mut [u8], v: Volume, n: u32, name: Name, owner: u16, protection: u16) -> FileId
     requires { ⌜ Open (now image) v × (n ≡ freeNumber (now image)) × (n ≤ v .fmax) ⌝ }
@@ -65,7 +54,7 @@ fn put_file(image: &mut [u8], v: Volume, n: u32, name: Name, owner: u16, protect
         volume: 0,
     };
     put_header(image, run.lbn, id, owner, protection, name);
-    set_index_bit(image, v, n);
+    put_map_bit(image, v.iblb, v.ibsz, n - 1, 1);
     id
 }
 

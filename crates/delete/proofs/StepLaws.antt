@@ -8,18 +8,16 @@ use lib.ListN.{length, getD, take, drop, take-append-drop}
 use lib.Seq.{length-take-le, take-suc, take-at, drop-at}
 use Rattle.image.specs.Blocks.{region, block}
 use Rattle.image.specs.Stores.{splice, putBits}
-use Rattle.image.proofs.BlockLaws.{region-length}
 use Rattle.image.proofs.StoreLaws.{part-splice}
-use Rattle.image.proofs.BitLaws.{putBits-none, putBits-append, putBits-agree}
+use Rattle.image.proofs.BitLaws.{putBits-none, putBits-append}
 use Rattle.header.specs.Pointers.{pointersAt, pointers, Fits, blocksOf}
 use Rattle.file.specs.Chains.{flat}
 use Rattle.covers.specs.Covered.{Ends}
 use Rattle.edits.specs.Cleared.{clearedSlot}
-use Rattle.edits.proofs.ClearedLaws.{cleared-length}
 use Rattle.update.specs.Writes.{putBlock, putMapBits}
 use Rattle.update.specs.Create.{indexBit}
 use Rattle.update.specs.Delete.{indexBits, clearSlots}
-use Rattle.update.proofs.WriteLaws.{putMapBits-map, putMapBits-length, putMapBits-outside}
+use Rattle.update.proofs.WriteLaws.{bits-long, part-bits, putMapBits-map, putMapBits-length, putMapBits-outside}
 use Rattle.delete.specs.Steps.{PointsInto, Freeable}
 
 -- The second of two runs that are written at one place is what is left.
@@ -36,22 +34,11 @@ splice-again b at s t h e =
 
 -- A map in the q blocks from LBN k on.
 module _ (image : List ℕ) (k q : ℕ) (fits : 512 * (k + q) ≤ length image) where
-  long : (js : List ℕ) (v : ℕ) → length (putBits (region image k q) js v) ≡ 512 * q
-  long js v = putBits-agree js (region image k q) v .len ∙ region-length image k q fits
-
-  -- The part that is the map, lent and come back as s.
-  pub part-bits : (n : ℕ) (js : List ℕ) (v : ℕ) (s : List ℕ) → n ≡ 512 * q → s ≡ putBits (take n (drop (512 * k) image)) js v
-      → take (512 * k) image ++ (s ++ drop n (drop (512 * k) image)) ≡ putMapBits image k q js v
-  unfolding putMapBits region
-  part-bits n js v s e f =
-      let g : s ≡ putBits (region image k q) js v = rw e at f in
-      rw (e, g) (part-splice image (512 * k) (512 * q) (putBits (region image k q) js v) (long js v))
-
   -- No bit, and more bits.
   pub put-none : (v : ℕ) → putMapBits image k q [] v ≡ image
   unfolding region
   put-none v =
-      sym (part-bits (512 * q) [] v (region image k q) refl (sym (putBits-none (region image k q) v)))
+      sym (part-bits image k q [] v fits (512 * q) (region image k q) refl (sym (putBits-none (region image k q) v)))
       ∙ ap (λ (r : List ℕ). take (512 * k) image ++ r) (take-append-drop (512 * q) (drop (512 * k) image))
       ∙ take-append-drop (512 * k) image
 
@@ -61,7 +48,7 @@ module _ (image : List ℕ) (k q : ℕ) (fits : 512 * (k + q) ≤ length image) 
       ap (λ (m : List ℕ). splice (putMapBits image k q js v) (512 * k) (putBits m ks v)) (putMapBits-map image k q js v fits)
       ∙ ap (splice (putMapBits image k q js v) (512 * k)) (sym (putBits-append js ks (region image k q) v))
       ∙ splice-again image (512 * k) (putBits (region image k q) js v) (putBits (region image k q) (js ++ ks) v) (omega arith)
-      (long (js ++ ks) v ∙ sym (long js v))
+      (bits-long image k q (js ++ ks) v fits ∙ sym (bits-long image k q js v fits))
 
   -- Bits of the map in an image in which bits of it were put.
   pub put-more : (js ks ls : List ℕ) (v : ℕ) (old new : List ℕ) → old ≡ putMapBits image k q js v → new ≡ putMapBits old k q ks v → js ++ ks ≡ ls
@@ -137,11 +124,3 @@ clear-more image ks i h old new e f =
     f
     ∙ ap (λ (b : List ℕ). putBlock b (getD ks i 0) (clearedSlot (block b (getD ks i 0)))) e
     ∙ sym (ap (clearSlots image) (take-more ks i h) ∙ clear-append (take i ks) image (getD ks i 0))
-
--- The part that is a slot, lent and come back as s.
-pub part-slot : (image : List ℕ) (k n : ℕ) (s : List ℕ) → n ≡ 512 → s ≡ clearedSlot (take n (drop (512 * k) image))
-    → take (512 * k) image ++ (s ++ drop n (drop (512 * k) image)) ≡ putBlock image k (clearedSlot (block image k))
-unfolding putBlock block
-part-slot image k n s e f =
-    let g : s ≡ clearedSlot (block image k) = rw e at f in
-    rw (e, g) (part-splice image (512 * k) 512 (clearedSlot (block image k)) (cleared-length (block image k)))

@@ -1,12 +1,12 @@
 // The three steps of delete, over the numbers and the slots of a chain that were gathered before.
-use crate::maps::clear_bit;
-use crate::maps::set_run;
 use edits::cleared::clear_slot;
 use header::pointers::first_pointer;
 use header::pointers::pointer_count;
 use header::pointers::pointer_lbn;
 use header::pointers::pointer_number;
 use image::blocks::block;
+use maps::put_map_bit;
+use maps::put_map_run;
 ghost use mathlib.Core.Path.{_≡_};
 ghost use Prim.Native.Nat.{_+_, _*_, _≤_};
 ghost use lib.ListN.{length, take};
@@ -25,7 +25,7 @@ pub(crate) fn clear_index(image: &mut [u8], k: u32, q: u32, numbers: [u32; 256],
 {
     let mut i: usize = 0;
     while i < count {
-        clear_bit(image, k, q, numbers[i] - 1);
+        put_map_bit(image, k, q, numbers[i] - 1, 0);
         i += 1;
     }
 }
@@ -38,7 +38,7 @@ fn free_pointer(image: &mut [u8], k: u32, q: u32, lbn: u32, at: usize)
     let h = block(image, lbn);
     let s = pointer_lbn(h, at);
     let c = pointer_count(h, at);
-    set_run(image, k, q, s, c);
+    put_map_run(image, k, q, s, c, 1);
 }
 
 // The blocks that the header in block `lbn` covers made free, pointer by pointer. The header lies outside the map.

@@ -18,7 +18,7 @@ use Rattle.volume.specs.Home.{blocks}
 use Rattle.volume.specs.Volume.{slot, header, storageMap}
 use Rattle.volume.specs.Opening.{openVolume}
 use Rattle.file.specs.Opening.{hasFlag, find, access, chained, openFile}
-use Rattle.verdict.specs.Verdict.{verdict, afterwards}
+use Rattle.verdict.specs.Verdict.{verdict}
 use Rattle.runs.specs.declared.Start.{Start}
 use Rattle.runs.specs.declared.Start.the-variants as starts
 use Rattle.runs.specs.Runs.{startOf}
@@ -182,7 +182,7 @@ module _ (image : List ℕ) (id : FileId) (c : ℕ) where
     pub outcome-refused : (r : Refusal) → verdict image b h ≡ outcome.Refused r → extendOutcome image id c b h ≡ outcome.Refused r
     outcome-refused r p = outcome-is ∙ then-refused (verdict image b h) (extendTests image id c) r p
 
--- An answer and an image by the outcome.
+-- An answer by the outcome.
 module _ (o : Outcome) where
   pub answer-done : (lbn : ℕ) (a : Lbn) → o ≡ outcome.Passed → a .0 ≡ lbn → answers.Done a ≡ extended o lbn
   unfolding extended
@@ -191,11 +191,3 @@ module _ (o : Outcome) where
   pub answer-refused : (lbn : ℕ) (r : Refusal) → o ≡ outcome.Refused r → answers.Refused r ≡ extended o lbn
   unfolding extended
   answer-refused lbn r p = rw p
-
-  pub image-done : (old new : List ℕ) → o ≡ outcome.Passed → new ≡ afterwards o old new
-  unfolding afterwards
-  image-done old new p = rw p
-
-  pub image-refused : (old new : List ℕ) (r : Refusal) → o ≡ outcome.Refused r → old ≡ afterwards o old new
-  unfolding afterwards
-  image-refused old new r p = rw p

@@ -1,7 +1,7 @@
 // The stores of extend: the storage map's bits, then the header's pointer.
 use answer::types::Lbn;
 use edits::extended::add_pointer;
-use image::bits::put_run;
+use maps::put_map_run;
 use volume::volume::Volume;
 use volume::volume::map_blocks;
 ghost use mathlib.Core.Path.{_≡_};
@@ -22,9 +22,8 @@ fn take_blocks(image: &mut [u8], v: Volume, s: u32, c: u32)
     requires { ⌜ Open (now image) v × (s + c ≤ blocks (now image)) ⌝ }
     ensures { λ _. ⌜ now (image .exit) ≡ putMapBits (now (image .entry)) (base (now (image .entry))) (mapBlocks (blocks (now (image .entry)))) (numbersFrom s c) 0 ⌝ }
 {
-    let from = 512 * (v.base as usize);
-    let to = from + 512 * (map_blocks(v.blocks) as usize);
-    put_run(&mut image[from..to], s as usize, c as usize, 0);
+    let q = map_blocks(v.blocks);
+    put_map_run(image, v.base, q, s, c, 0);
 }
 
 // The pointer to the c blocks from LBN s on, in the header at an LBN.

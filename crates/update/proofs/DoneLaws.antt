@@ -1,5 +1,5 @@
 -- A call that meets each test is DONE and changes the image; one that does not changes nothing.
-use mathlib.Core.Path.{_≡_}
+use mathlib.Core.Path.{_≡_, sym}
 use mathlib.Core.Bool.{true, not}
 use mathlib.Core.List.{List}
 use Prim.Native.Nat.{ℕ, _≤_, _<_}
@@ -8,6 +8,7 @@ use borrow.Author.Tests.{le-leb}
 use Rattle.answer.specs.declared.types.FileId.{FileId}
 use Rattle.answer.specs.declared.types.Name.{Name}
 use Rattle.answer.specs.declared.refusal.Refusal.{Refusal}
+use Rattle.answer.specs.declared.outcome.Outcome.{Outcome}
 use Rattle.answer.specs.declared.outcome.Outcome.the-variants.{Passed, Refused}
 use Rattle.answer.specs.Outcome.{unless, _then_}
 use Rattle.radix50.specs.Names.{proper}
@@ -47,31 +48,40 @@ pub sequence-above : (image : List ℕ) (n : ℕ) → hFseq (header image n) < n
 unfolding newSequence
 sequence-above image n = omega arith
 
+-- What a row of tests leaves of two images: the old one where it refuses, the new one where it is passed.
+pub image-refused : (o : Outcome) (r : Refusal) (old new : List ℕ) → o ≡ Refused r → old ≡ afterwards o old new
+unfolding afterwards
+image-refused o r old new e = rw e
+
+pub image-done : (o : Outcome) (old new : List ℕ) → o ≡ Passed → new ≡ afterwards o old new
+unfolding afterwards
+image-done o old new e = rw e
+
 -- The image after each call.
 module _ (image : List ℕ) (name : Name) (owner protection b h : ℕ) where
   pub create-passes : createOutcome image name b h ≡ Passed → createImage image name owner protection b h ≡ withFile image name owner protection
-  unfolding createImage afterwards
-  create-passes e = rw e
+  unfolding createImage
+  create-passes e = sym (image-done (createOutcome image name b h) image (withFile image name owner protection) e)
 
   pub create-refused : (r : Refusal) → createOutcome image name b h ≡ Refused r → createImage image name owner protection b h ≡ image
-  unfolding createImage afterwards
-  create-refused r e = rw e
+  unfolding createImage
+  create-refused r e = sym (image-refused (createOutcome image name b h) r image (withFile image name owner protection) e)
 
 module _ (image : List ℕ) (id : FileId) (c b h : ℕ) where
   pub extend-passes : extendOutcome image id c b h ≡ Passed
       → extendImage image id c b h ≡ withBlocks image (lastNumber image (id .number)) (runStart image c) c
-  unfolding extendImage afterwards
-  extend-passes e = rw e
+  unfolding extendImage
+  extend-passes e = sym (image-done (extendOutcome image id c b h) image (withBlocks image (lastNumber image (id .number)) (runStart image c) c) e)
 
   pub extend-refused : (r : Refusal) → extendOutcome image id c b h ≡ Refused r → extendImage image id c b h ≡ image
-  unfolding extendImage afterwards
-  extend-refused r e = rw e
+  unfolding extendImage
+  extend-refused r e = sym (image-refused (extendOutcome image id c b h) r image (withBlocks image (lastNumber image (id .number)) (runStart image c) c) e)
 
 module _ (image : List ℕ) (id : FileId) (b h : ℕ) where
   pub delete-passes : deleteOutcome image id b h ≡ Passed → deleteImage image id b h ≡ withoutNumbers image (chainOf image (id .number))
-  unfolding deleteImage afterwards
-  delete-passes e = rw e
+  unfolding deleteImage
+  delete-passes e = sym (image-done (deleteOutcome image id b h) image (withoutNumbers image (chainOf image (id .number))) e)
 
   pub delete-refused : (r : Refusal) → deleteOutcome image id b h ≡ Refused r → deleteImage image id b h ≡ image
-  unfolding deleteImage afterwards
-  delete-refused r e = rw e
+  unfolding deleteImage
+  delete-refused r e = sym (image-refused (deleteOutcome image id b h) r image (withoutNumbers image (chainOf image (id .number))) e)

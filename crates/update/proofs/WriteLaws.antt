@@ -1,18 +1,18 @@
 -- Laws of an image of which a block is written, or the bits of a map that lies in blocks of it.
 use mathlib.Core.Path.{_≡_, sym, ap, _∙_}
 use mathlib.Core.Bool.{and-false}
-use mathlib.Core.List.{List}
+use mathlib.Core.List.{List, _++_}
 use Prim.Native.Nat.{ℕ, _+_, _*_, _-_, _/_, _≤_, _<_}
 use native.Mathlib.Decide.{decLt}
 use native.Mathlib.Omega.{arith}
 use borrow.Author.Tests.{lt-leb}
-use lib.ListN.{length, getD}
+use lib.ListN.{length, getD, take, drop, length-take, length-drop}
 use Rattle.image.specs.Words.{Bytes}
 use Rattle.image.specs.Blocks.{region, block}
 use Rattle.image.specs.Bits.{bitAt}
-use Rattle.image.specs.Stores.{putBits}
+use Rattle.image.specs.Stores.{splice, putBits}
 use Rattle.image.proofs.BlockLaws.{region-length, region-bytes, block-region}
-use Rattle.image.proofs.StoreLaws.{Outside, region-agree, block-agree, splice-bytes, splice-region, splice-block, Keeps, keeps-weaken, keeps-agree, splice-keeps}
+use Rattle.image.proofs.StoreLaws.{Outside, region-agree, block-agree, part-splice, splice-bytes, splice-region, splice-block, Keeps, keeps-weaken, keeps-agree, splice-keeps}
 use Rattle.image.proofs.BitLaws.{putBits-agree, Put, putBits-put}
 use Rattle.volume.specs.Volume.{fmax, inUse, indexMap}
 use Rattle.marks.specs.Counts.{count, In}
@@ -44,19 +44,36 @@ module _ (image : List ℕ) (k : ℕ) (b : List ℕ) (long : length b ≡ 512) (
   unfolding putBlock
   putBlock-bytes bytes news = splice-bytes (512 * k) (omega arith) bytes news
 
+-- The part that is block k, lent and come back as s, which f makes of it.
+pub part-block : (image : List ℕ) (k n : ℕ) (f : List ℕ → List ℕ) (s : List ℕ) → 512 * (k + 1) ≤ length image → n ≡ 512
+    → length s ≡ length (take n (drop (512 * k) image)) → s ≡ f (take n (drop (512 * k) image))
+    → take (512 * k) image ++ (s ++ drop n (drop (512 * k) image)) ≡ putBlock image k (f (block image k))
+unfolding putBlock block
+part-block image k n f s fits e kept made =
+    let long : length s ≡ 512 = omega (arith, kept, length-take n (drop (512 * k) image), length-drop (512 * k) image) in
+    rw e (part-splice image (512 * k) 512 s long ∙ ap (splice image (512 * k)) (rw e at made))
+
 -- Bits of the map in the q blocks from LBN k on.
 module _ (image : List ℕ) (k q : ℕ) (js : List ℕ) (v : ℕ) (fits : 512 * (k + q) ≤ length image) where
-  long : length (putBits (region image k q) js v) ≡ 512 * q
-  long = putBits-agree js (region image k q) v .len ∙ region-length image k q fits
+  pub bits-long : length (putBits (region image k q) js v) ≡ 512 * q
+  bits-long = putBits-agree js (region image k q) v .len ∙ region-length image k q fits
+
+  -- The part that is the map, lent and come back as s.
+  pub part-bits : (n : ℕ) (s : List ℕ) → n ≡ 512 * q → s ≡ putBits (take n (drop (512 * k) image)) js v
+      → take (512 * k) image ++ (s ++ drop n (drop (512 * k) image)) ≡ putMapBits image k q js v
+  unfolding putMapBits region
+  part-bits n s e f =
+      let g : s ≡ putBits (region image k q) js v = rw e at f in
+      rw (e, g) (part-splice image (512 * k) (512 * q) (putBits (region image k q) js v) bits-long)
 
   -- The map is read back with the bits put, and every block outside it stays.
   pub putMapBits-map : region (putMapBits image k q js v) k q ≡ putBits (region image k q) js v
   unfolding putMapBits
-  putMapBits-map = splice-region image k q (putBits (region image k q) js v) long (omega arith)
+  putMapBits-map = splice-region image k q (putBits (region image k q) js v) bits-long (omega arith)
 
   pub putMapBits-outside : Keeps (Outside k q) image (putMapBits image k q js v)
   unfolding putMapBits
-  putMapBits-outside = splice-keeps image k q (putBits (region image k q) js v) long fits
+  putMapBits-outside = splice-keeps image k q (putBits (region image k q) js v) bits-long fits
 
   pub putMapBits-region : (l p : ℕ) → ((i : ℕ) → l ≤ i → i < l + p → Outside k q i) → region (putMapBits image k q js v) l p ≡ region image l p
   putMapBits-region = keeps-region putMapBits-outside
@@ -92,7 +109,7 @@ module _ (image : List ℕ) (k q : ℕ) (js : List ℕ) (v : ℕ) (fits : 512 * 
 
     pub putMapBits-bytes : Bytes (putMapBits image k q js v)
     unfolding putMapBits
-    putMapBits-bytes = splice-bytes (512 * k) (omega (arith, long)) bytes (put .bytes)
+    putMapBits-bytes = splice-bytes (512 * k) (omega (arith, bits-long)) bytes (put .bytes)
 
     pub putMapBits-bit : (j : ℕ) → In j js → bitAt (region (putMapBits image k q js v) k q) j ≡ v
     putMapBits-bit j m =

@@ -9,7 +9,8 @@ use Rattle.answer.specs.declared.outcome.Outcome.the-variants as outcome
 use Rattle.verdict.specs.Verdict.{verdict}
 use Rattle.verdict.proofs.PassedLaws.{passed-opens}
 use Rattle.update.specs.Create.{createAnswer, createImage}
-use Rattle.create.proofs.CreateLaws.{answer-refused, image-refused, judged-refused, judged-passed}
+use Rattle.update.proofs.DoneLaws.{image-refused}
+use Rattle.create.proofs.CreateLaws.{answer-refused, judged-refused, judged-passed}
 use Rattle.create.proofs.create.create.Statement.{statement}
 use Rattle.create.proofs.create.create.Tie as tie
 

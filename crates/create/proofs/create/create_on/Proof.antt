@@ -9,7 +9,8 @@ use Rattle.radix50.specs.Names.{proper}
 use Rattle.volume.proofs.VolumeLaws.{says}
 use Rattle.verdict.specs.Verdict.{afterwards}
 use Rattle.update.specs.Create.{created}
-use Rattle.create.proofs.CreateLaws.{tests-improper, tests-none, tests-passed, answer-refused, image-refused}
+use Rattle.update.proofs.DoneLaws.{image-refused}
+use Rattle.create.proofs.CreateLaws.{tests-improper, tests-none, tests-passed, answer-refused}
 use Rattle.create.proofs.create.create_on.Statement.{statement}
 use Rattle.create.proofs.create.create_on.Tie as tie
 

@@ -10,7 +10,7 @@ use Rattle.volume.specs.Volume.{fmax, slot, header}
 use Rattle.volume.specs.Opening.{indexMapBlocks, Laid}
 use Rattle.volume.proofs.VolumeLaws.{Opens, opens, says, slot-below}
 use Rattle.slots.proofs.SlotLaws.{stands-read, opened-fmax}
-use Rattle.update.specs.Create.{newId, newSequence, withNumber, withFile}
+use Rattle.update.specs.Create.{newId, newSequence, indexBit, withNumber, withFile}
 use Rattle.update.proofs.PassedLaws.{Spare, free-spare}
 use Rattle.create.proofs.SpareLaws.{slot-stands}
 use Rattle.create.proofs.create.put_file.Statement.{statement}
@@ -62,28 +62,31 @@ put-header-requires c κs =
     let h = c .before in
     omega (arith, lbn h, slot-below (opened (k h)) (n (k h)) (omega (arith, spare (k h) .low)) (spare (k h) .has), opened (k h) .size)
 
-set-index-bit-requires : tie.Need-set-index-bit-requires
+sub-put-map-bit : tie.Need-sub-put-map-bit
+sub-put-map-bit c = omega (arith, spare (k (c .before .before .before .before .before)) .low)
+
+put-map-bit-requires : tie.Need-put-map-bit-requires
 unfolding indexMapBlocks
-set-index-bit-requires c κs =
+put-map-bit-requires c κs =
     let p = c .before .before .before in
     let q = k (p .before .before) in
     let v = laid q in (
-      omega (arith, spare q .low),
-      omega (arith, most q, v .ibsz, opened q .maps),
       omega (arith, p .put-header .kept .0, v .iblb, v .ibsz, opened q .fits, opened q .size),
+      omega (arith, spare q .low, most q, v .ibsz, opened q .maps),
+      omega arith,
     )
 
 returns : tie.Need-returns
-unfolding newId newSequence withFile withNumber
+unfolding newId newSequence withFile withNumber indexBit
 returns c =
     let f = c .before .before in
     let p = f .before .before .before .before in
     let h = p .before .before in
     let e = k h .before .pre .1 in
     let v = laid (k h) in
-    (rw (word h, ← e), rw (f .set-index-bit .ensures, p .put-header .ensures, ← e, ← lbn h, ← word h, ← v .iblb, ← v .ibsz))
+    (rw (word h, ← e), rw (f .put-map-bit .ensures, p .put-header .ensures, ← e, ← lbn h, ← word h, ← v .iblb, ← v .ibsz))
 
 pub put-file-spec : {M : Type 1} → statement M
 put-file-spec =
     tie.close
-    (tie.spec slot-run-requires (search needs) (search needs) cast-t16 add-t17 put-header-requires set-index-bit-requires (search needs) returns)
+    (tie.spec slot-run-requires (search needs) (search needs) cast-t16 add-t17 put-header-requires sub-put-map-bit put-map-bit-requires (search needs) returns)

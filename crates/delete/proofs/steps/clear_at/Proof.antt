@@ -3,14 +3,16 @@ use Prim.Native.Nat.{_+_, _*_, _-_}
 use native.Mathlib.Omega.{arith}
 use denote.Ref.{now}
 use borrow.Author.Needs.{needs}
-use Rattle.delete.proofs.StepLaws.{part-slot}
+use Rattle.edits.specs.Cleared.{clearedSlot}
+use Rattle.update.proofs.WriteLaws.{part-block}
 use Rattle.delete.proofs.steps.clear_at.Statement.{statement}
 use Rattle.delete.proofs.steps.clear_at.Tie as tie
 
 returns : tie.Need-returns
 returns c =
+    let f = c .before .before .clear-slot in
     let a = c .before .before .before .before .before .args in
-    part-slot (now (a .image)) (a .lbn) (512 * a .lbn + 512 - 512 * a .lbn) _ (omega arith) (c .before .before .clear-slot .ensures)
+    part-block (now (a .image)) (a .lbn) (512 * a .lbn + 512 - 512 * a .lbn) clearedSlot _ (omega arith) (omega arith) (f .kept .0) (f .ensures)
 
 pub clear-at-spec : {M : Type 1} → statement M
 clear-at-spec = tie.close (tie.spec (search needs) (search needs) (search needs) (search needs) (search needs) (search needs) (search needs) returns)

@@ -22,22 +22,22 @@ loop-holds c =
     let a = c .before .args in
     (search needs, refl, sym (rw (indexBits-none (a .t4)) (put-none (now (a .image)) (a .k) (a .q) (c .before .pre .0) 0)))
 
-sub-clear-bit : tie.Need-sub-clear-bit Inv-loop μ-loop
-sub-clear-bit c =
+sub-put-map-bit : tie.Need-sub-put-map-bit Inv-loop μ-loop
+sub-put-map-bit c =
     let l = c .before .before in
     omega (arith, l .before .before .pre .2 .each (l .loop .i) (omega arith))
 
-clear-bit-requires : tie.Need-clear-bit-requires Inv-loop μ-loop
-clear-bit-requires c κs =
+put-map-bit-requires : tie.Need-put-map-bit-requires Inv-loop μ-loop
+put-map-bit-requires c κs =
     let l = c .before .before in
     let p = l .before .before .pre in
-    (omega (arith, p .0, l .loop .inv .1), omega (arith, p .2 .each (l .loop .i) (omega arith)))
+    (omega (arith, p .0, l .loop .inv .1), omega (arith, p .2 .each (l .loop .i) (omega arith)), omega arith)
 
 loop-again : tie.Need-loop-again Inv-loop μ-loop
 loop-again c =
     let l = c .before .before .before .before .before in
     let s = l .before .before in
-    let b = c .before .before .clear-bit in
+    let b = c .before .before .put-map-bit in
     let more = indexBits-more (s .args .t4) (l .loop .i) (omega (arith, s .pre .2 .long)) in (
       search needs,
       b .kept .0 ∙ l .loop .inv .1,
@@ -54,4 +54,4 @@ returns c =
 pub clear-index-spec : {M : Type 1} → statement M
 clear-index-spec =
     tie.close
-    (tie.spec Inv-loop μ-loop loop-holds (search needs) (search needs) sub-clear-bit clear-bit-requires (search needs) (search needs) loop-again (search needs) returns)
+    (tie.spec Inv-loop μ-loop loop-holds (search needs) (search needs) sub-put-map-bit put-map-bit-requires (search needs) (search needs) loop-again (search needs) returns)

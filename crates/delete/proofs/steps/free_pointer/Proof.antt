@@ -1,14 +1,12 @@
 -- The pointer is read from the header, and its run of bits is set.
-use mathlib.Core.Path.{_≡_, ap, ap₂, _∙_}
+use mathlib.Core.Path.{_≡_, ap, _∙_}
 use mathlib.Core.List.{List}
 use Prim.Native.Nat.{ℕ}
 use native.Mathlib.Omega.{arith}
 use denote.Ref.{now}
 use borrow.Author.Needs.{needs}
 use Rattle.image.specs.Blocks.{block}
-use Rattle.image.specs.Stores.{numbersFrom}
 use Rattle.header.specs.Pointers.{pointerLbn, pointerCount, run}
-use Rattle.update.specs.Writes.{putMapBits}
 use Rattle.delete.proofs.steps.free_pointer.Statement.{statement}
 use Rattle.delete.proofs.steps.free_pointer.Tie as tie
 
@@ -31,19 +29,17 @@ pointer-lbn-requires c κs = rw (c .block .ensures) (c .before .before .before .
 pointer-count-requires : tie.Need-pointer-count-requires
 pointer-count-requires c κs = rw (c .before .block .ensures) (c .before .before .before .before .pre .1 .inside)
 
-set-run-requires : tie.Need-set-run-requires
-set-run-requires c κs =
+put-map-run-requires : tie.Need-put-map-run-requires
+put-map-run-requires c κs =
     let p = start (c .before) .pre in
-    (p .0, omega (arith, lbn (c .before), count (c .before), p .1 .below))
+    (p .0, omega (arith, lbn (c .before), count (c .before), p .1 .below), omega arith)
 
 returns : tie.Need-returns
 unfolding run
 returns c =
     let d = c .before .before .before .before in
-    let a = start d .args in
-    c .before .before .set-run .ensures
-    ∙ ap (λ (js : List ℕ). putMapBits (now (a .image)) (a .k) (a .q) js 1) (ap₂ numbersFrom (lbn d) (count d))
+    rw (← lbn d, ← count d) (c .before .before .put-map-run .ensures)
 
 pub free-pointer-spec : {M : Type 1} → statement M
 free-pointer-spec =
-    tie.close (tie.spec (search needs) pointer-lbn-requires pointer-count-requires set-run-requires (search needs) returns)
+    tie.close (tie.spec (search needs) pointer-lbn-requires pointer-count-requires put-map-run-requires (search needs) returns)

@@ -11,7 +11,8 @@ use Rattle.verdict.specs.Verdict.{verdict, afterwards}
 use Rattle.verdict.proofs.PassedLaws.{passed-opens, passed-room}
 use Rattle.sound.proofs.ExactLaws.{verdict-judges}
 use Rattle.update.specs.Extend.{lastNumber, runStart, extended, extendAnswer, withBlocks, extendImage}
-use Rattle.extend.proofs.TestLaws.{outcome-passed, outcome-refused, answer-refused, image-refused}
+use Rattle.update.proofs.DoneLaws.{image-refused}
+use Rattle.extend.proofs.TestLaws.{outcome-passed, outcome-refused, answer-refused}
 use Rattle.extend.proofs.extend.extend.Statement.{statement}
 use Rattle.extend.proofs.extend.extend.Tie as tie
 

@@ -11,7 +11,8 @@ use Rattle.update.specs.Extend.{lastNumber, runStart, extendTests}
 use Rattle.update.proofs.Effects.{Good}
 use Rattle.update.proofs.PassedLaws.{extend-tested}
 use Rattle.extend.specs.declared.plan.Plan.the-variants as plan
-use Rattle.extend.proofs.TestLaws.{Plans, plans, answer-done, answer-refused, image-done, image-refused}
+use Rattle.update.proofs.DoneLaws.{image-refused, image-done}
+use Rattle.extend.proofs.TestLaws.{Plans, plans, answer-done, answer-refused}
 use Rattle.extend.proofs.TakeLaws.{takes, taken}
 use Rattle.extend.proofs.extend.extend_on.Statement.{statement}
 use Rattle.extend.proofs.extend.extend_on.Tie as tie
