@@ -1,4 +1,4 @@
--- Demand 3, as one claim over every list of calls; and what is claimed beside it.
+-- Demand 3, as one claim over every list of calls.
 use mathlib.Core.Path.{_≡_}
 use mathlib.Core.Bool.{true}
 use mathlib.Core.List.{List}
