@@ -1,6 +1,6 @@
 -- A call that meets each test is DONE and changes the image; one that does not changes nothing.
-use mathlib.Core.Path.{_≡_, sym}
-use mathlib.Core.Bool.{true, not}
+use mathlib.Core.Path.{_≡_, sym, _∙_}
+use mathlib.Core.Bool.{Bool, true, not}
 use mathlib.Core.List.{List}
 use Prim.Native.Nat.{ℕ, _≤_, _<_}
 use native.Mathlib.Omega.{arith}
@@ -8,9 +8,11 @@ use borrow.Author.Tests.{le-leb}
 use Rattle.answer.specs.declared.types.FileId.{FileId}
 use Rattle.answer.specs.declared.types.Name.{Name}
 use Rattle.answer.specs.declared.refusal.Refusal.{Refusal}
+use Rattle.answer.specs.declared.refusal.Refusal.the-variants as refusal
 use Rattle.answer.specs.declared.outcome.Outcome.{Outcome}
 use Rattle.answer.specs.declared.outcome.Outcome.the-variants.{Passed, Refused}
 use Rattle.answer.specs.Outcome.{unless, _then_}
+use Rattle.answer.proofs.OutcomeLaws.{then-passed}
 use Rattle.radix50.specs.Names.{proper}
 use Rattle.header.specs.Fields.{hFseq}
 use Rattle.volume.specs.Home.{blocks}
@@ -25,14 +27,21 @@ use Rattle.update.specs.Extend.{isKnownNumber, isFixed, isCount, hasRoom
 use Rattle.update.specs.Delete.{deleteTests, deleteOutcome, withoutNumbers, deleteImage}
 use Rattle.update.proofs.Effects.{Good}
 
+-- A test that is met.
+met : (t : Bool) (r : Refusal) → t ≡ true → unless t r ≡ Passed
+unfolding unless
+met t r e = rw e
+
 -- The verdict passes a good image, with work areas that are long enough.
 module _ (image : List ℕ) (g : Good image) (b h : ℕ) (room : blocks image ≤ b) (rest : fmax image ≤ h) where
   judged : verdict image b h ≡ Passed
   judged = verdict-judges image b h room rest .holds (opens-all image (g .opens), g .sound)
 
   pub create-done : (name : Name) → proper name ≡ true → freeNumber image ≤ fmax image → createOutcome image name b h ≡ Passed
-  unfolding createOutcome createTests unless _then_
-  create-done name named found = rw (judged, named, le-leb (freeNumber image) (fmax image) found)
+  unfolding createOutcome createTests
+  create-done name named found =
+      then-passed (verdict image b h) _ judged ∙ then-passed _ _ (met (proper name) refusal.Name named)
+      ∙ met _ refusal.Nonumber (le-leb (freeNumber image) _ (omega (arith, found)))
 
   pub extend-done : (id : FileId) (c : ℕ) → openFile image id ≡ Passed → not (isKnownNumber (id .number)) ≡ true → not (isFixed (header image (id .number))) ≡ true
       → isCount c ≡ true → hasRoom (header image (lastNumber image (id .number))) ≡ true → hasRun image c ≡ true → extendOutcome image id c b h ≡ Passed

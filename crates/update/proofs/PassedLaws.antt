@@ -31,13 +31,9 @@ pub record Spare (image : List ℕ) (n : ℕ) : Type 0 where
   pub has : n ≤ slots image
   pub word : hFseq (header image n) < 65535
 
--- The lowest that there is, where it is no higher than H.FMAX.
-pub free-spare : (image : List ℕ) (n : ℕ) → n ≡ freeNumber image → n ≤ fmax image → Spare image n
-unfolding freeNumber isSpare hasSlot
-free-spare image n e l =
-    let f = first-has (isSpare image) 6 (fmax image - 5) in
-    let low : 6 ≤ n = omega (arith, e, f .low) in
-    let t : isSpare image n ≡ true = ap (isSpare image) e ∙ f .here (omega (arith, e)) in
+spare-is : (image : List ℕ) (n : ℕ) → 6 ≤ n → isSpare image n ≡ true → Spare image n
+unfolding isSpare hasSlot
+spare-is image n low t =
     let both = and-eq-true-iff _ (ltb (hFseq (header image n)) 65535) .0 t in
     let left = and-eq-true-iff _ (leb n (slots image)) .0 (both .0) in
     record {
@@ -46,6 +42,13 @@ free-spare image n e l =
       has = leb-true n (slots image) (left .1);
       word = ltb-true (hFseq (header image n)) 65535 (both .1);
     }
+
+-- The lowest that there is, where it is no higher than H.FMAX.
+pub free-spare : (image : List ℕ) (n : ℕ) → n ≡ freeNumber image → n ≤ fmax image → Spare image n
+unfolding freeNumber
+free-spare image n e l =
+    let f = first-has (isSpare image) 6 (fmax image - 5) in
+    spare-is image n (omega (arith, e, f .low)) (ap (isSpare image) e ∙ f .here (omega (arith, e)))
 
 pub record CreatePassed (image : List ℕ) (name : Name) : Type 0 where
   pub named : proper name ≡ true
