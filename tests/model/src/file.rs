@@ -183,17 +183,7 @@ pub fn block(bytes: &[u8], id: Id, vbn: Vbn) -> Answer {
 #[cfg(test)]
 mod tests {
     use super::*;
-    use crate::sample::{changed, slot, CONTROL, INDEX_MAP, MAP, VOLUME_V};
-
-    const FILE_6: Id = Id {
-        number: 6,
-        sequence: 9,
-        volume: 0,
-    };
-
-    fn id(number: u16, sequence: u16) -> Id {
-        Id::from_words([number, sequence, 0])
-    }
+    use crate::sample::{changed, id, slot, CONTROL, FILE_6, INDEX_MAP, MAP, VOLUME_V};
 
     /// What opening 6,9,0 of Volume V answers with bytes changed.
     fn opened(changes: &[(usize, usize, &[u8])]) -> Number {

@@ -1,9 +1,22 @@
 //! Volume V of paper 01, for the tests of the model, and changes of it.
 
+use crate::file::Id;
 use crate::image::sum_of_words;
 
 /// The sample of the repository.
 pub const VOLUME_V: &[u8] = include_bytes!("../../../samples/volume-v.dsk");
+
+/// The ID of file 6 of Volume V.
+pub const FILE_6: Id = Id {
+    number: 6,
+    sequence: 9,
+    volume: 0,
+};
+
+/// A file ID without third word.
+pub fn id(number: u16, sequence: u16) -> Id {
+    Id::from_words([number, sequence, 0])
+}
 
 /// LBNs of Volume V.
 pub const HOME: usize = 1;

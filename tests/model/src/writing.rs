@@ -271,7 +271,7 @@ pub fn delete(image: &mut [u8], id: Id, blocks: &mut [u8], headers: &mut [u8]) -
 mod tests {
     use super::*;
     use crate::directory::look_up;
-    use crate::sample::{changed, slot, CONTROL, HOME, INDEX_MAP, MAP, VOLUME_V};
+    use crate::sample::{changed, id, slot, CONTROL, FILE_6, HOME, INDEX_MAP, MAP, VOLUME_V};
     use crate::{kept, sound};
 
     /// Bytes at a place: LBN, byte in the block, bytes.
@@ -286,16 +286,6 @@ mod tests {
         typ: 6_460,
         version: 1,
     };
-
-    const FILE_6: Id = Id {
-        number: 6,
-        sequence: 9,
-        volume: 0,
-    };
-
-    fn id(number: u16, sequence: u16) -> Id {
-        Id::from_words([number, sequence, 0])
-    }
 
     /// A call on an image, with work areas of 100 and 17 bytes.
     fn with_areas(call: impl FnOnce(&mut [u8], &mut [u8]) -> Answer) -> Answer {
