@@ -1,0 +1,59 @@
+// Extents of a file: from a VBN on, the blocks that lie one after the other on the volume.
+use crate::rows::Row;
+use crate::rows::row_of;
+use answer::outcome::Outcome;
+use answer::refusal::Refusal;
+use answer::types::FileId;
+use answer::types::FileNumber;
+use answer::types::Lbn;
+use answer::types::Vbn;
+use file::opening::open;
+ghost use mathlib.Core.Path.{_≡_};
+ghost use Rattle.extents.specs.Extents.{extentAnswer};
+ghost use Rattle.extents.specs.Claims.{ExtentsMap};
+
+mod rows;
+
+// The answer of asking for an extent.
+pub enum Extent {
+    // The LBN of the VBN, and how many blocks lie in a row from there on.
+    Done(Lbn, u32),
+    Refused(Refusal),
+}
+
+// The extent of a file from a VBN on.
+pub fn extent_from(image: &[u8], id: FileId, vbn: Vbn) -> Extent
+    ensures { λ r. ⌜ r ≡ extentAnswer (now (image .entry)) id (vbn .0) ⌝ }
+{
+    let file = open(image, id);
+    let result = file.outcome;
+    match result {
+        Outcome::Passed => {
+            let place = vbn.0;
+            if place == 0 {
+                return Extent::Refused(Refusal::Vbn);
+            }
+            if file.blocks < place {
+                return Extent::Refused(Refusal::Vbn);
+            }
+            let row = row_of(
+                image,
+                file.volume,
+                FileNumber(id.number as u32),
+                file.header,
+                place - 1,
+            );
+            match row {
+                Row::Ahead(_) => Extent::Refused(Refusal::Vbn),
+                Row::Open(lbn, count) => Extent::Done(lbn, count),
+                Row::Ended(lbn, count) => Extent::Done(lbn, count),
+            }
+        }
+        Outcome::Refused(r) => Extent::Refused(r),
+    }
+}
+
+// What an extent tells of the file's blocks, as one statement about the definitions.
+pub fn extents_map()
+    ensures { λ _. ⌜ ExtentsMap ⌝ }
+{}
