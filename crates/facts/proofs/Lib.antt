@@ -1,0 +1,3 @@
+pub mod FileLaws
+pub mod HeaderLaws
+pub mod VolumeLaws

@@ -1,0 +1,3 @@
+pub mod Volumes
+pub mod Headers
+pub mod Files
