@@ -15,11 +15,17 @@ use Rattle.file.proofs.OpeningLaws.{opened}
 use Rattle.file.proofs.MappingLaws.{map-refused}
 use Rattle.directory.specs.LookUp.{lookUp, nextRecord}
 use Rattle.directory.proofs.LookUpLaws.{look-refused, next-refused}
+use Rattle.facts.specs.Files.{fileAnswer}
+use Rattle.facts.proofs.FileLaws.{described-refused}
+use Rattle.extents.specs.Extents.{extentAnswer}
+use Rattle.extents.proofs.ExtentLaws.{extent-refused}
 use Rattle.update.specs.Extend.{extendOutcome, extended, extendAnswer}
 use Rattle.update.specs.Delete.{deleteOutcome, deleted, deleteAnswer}
 use Rattle.update.proofs.PassedLaws.{extend-passed, delete-passed}
 use Rattle.ods1.specs.Changing.{extendedWords, deletedWords}
 use Rattle.ods1.specs.Reading.{openedFileWords, mappedWords, blockWords, foundWords, steppedWords}
+use Rattle.ods1.specs.Fields.{describedWords}
+use Rattle.ods1.specs.Space.{extentWords}
 use Rattle.ods1.specs.Sequence.{OtherSequence, IsRefused, SequenceAsked}
 
 -- What opening a file is refused with.
@@ -51,6 +57,12 @@ module _ (image : List ℕ) (id : FileId) (other : OtherSequence image id) where
   stepped-refused : (place : ℕ) → IsRefused (steppedWords (nextRecord image id place))
   stepped-refused place = rw (next-refused image id place (refuses .why) (refuses .is)) (refused-number refusal.Absent)
 
+  attributes-refused : IsRefused (describedWords (fileAnswer image id))
+  attributes-refused = rw (← described-refused image id (refuses .why) (refuses .is)) (refused-number (refuses .why))
+
+  row-refused : (vbn : ℕ) → IsRefused (extentWords (extentAnswer image id vbn))
+  row-refused vbn = rw (extent-refused image id vbn (refuses .why) (refuses .is)) (refused-number (refuses .why))
+
   extended-refused : (count b h : ℕ) → IsRefused (extendedWords (extendAnswer image id count b h))
   unfolding extendAnswer extended
   extended-refused count b h = go (extendOutcome image id count b h) refl
@@ -74,6 +86,8 @@ sequence-asked = record {
   block = λ image id vbn other. block-refused image id other vbn;
   look-up = λ image id name other. found-refused image id other name;
   next-record = λ image id place other. stepped-refused image id other place;
+  attributes = attributes-refused;
+  extent = λ image id vbn other. row-refused image id other vbn;
   extend = λ image id count b h other. extended-refused image id other count b h;
   delete = λ image id b h other. deleted-refused image id other b h;
 }

@@ -11,10 +11,14 @@ use Rattle.volume.specs.Volume.{header}
 use Rattle.file.specs.Opening.{openAnswer}
 use Rattle.file.specs.Mapping.{mapAnswer}
 use Rattle.directory.specs.LookUp.{lookUp, nextRecord}
+use Rattle.facts.specs.Files.{fileAnswer}
+use Rattle.extents.specs.Extents.{extentAnswer}
 use Rattle.update.specs.Extend.{extendAnswer}
 use Rattle.update.specs.Delete.{deleteAnswer}
 use Rattle.ods1.specs.Changing.{extendedWords, deletedWords}
 use Rattle.ods1.specs.Reading.{openedFileWords, mappedWords, blockWords, foundWords, steppedWords}
+use Rattle.ods1.specs.Fields.{describedWords}
+use Rattle.ods1.specs.Space.{extentWords}
 
 -- The sequence number of the ID is not H.FSEQ of the header in the slot of its number.
 abbrev pub OtherSequence : List ℕ → FileId → Type 0
@@ -31,5 +35,7 @@ pub record SequenceAsked : Type 0 where
   pub block : (image : List ℕ) (id : FileId) (vbn : ℕ) → OtherSequence image id → IsRefused (blockWords (mapAnswer image id vbn))
   pub look-up : (image : List ℕ) (id : FileId) (name : Name) → OtherSequence image id → IsRefused (foundWords (lookUp image id name))
   pub next-record : (image : List ℕ) (id : FileId) (place : ℕ) → OtherSequence image id → IsRefused (steppedWords (nextRecord image id place))
+  pub attributes : (image : List ℕ) (id : FileId) → OtherSequence image id → IsRefused (describedWords (fileAnswer image id))
+  pub extent : (image : List ℕ) (id : FileId) (vbn : ℕ) → OtherSequence image id → IsRefused (extentWords (extentAnswer image id vbn))
   pub extend : (image : List ℕ) (id : FileId) (count b h : ℕ) → OtherSequence image id → IsRefused (extendedWords (extendAnswer image id count b h))
   pub delete : (image : List ℕ) (id : FileId) (b h : ℕ) → OtherSequence image id → IsRefused (deletedWords (deleteAnswer image id b h))

@@ -2,8 +2,10 @@
 // place and ten value words.
 pub mod changes;
 pub mod directories;
+pub mod fields;
 pub mod files;
 pub mod names;
 pub mod sequence;
+pub mod space;
 pub mod verdicts;
 pub mod volumes;

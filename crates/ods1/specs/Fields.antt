@@ -1,0 +1,86 @@
+-- The answer words of the calls that tell what a volume, a header and a file say of themselves.
+use Prim.Native.Nat.{ℕ}
+use mathlib.Core.List.{List, [], _∷_}
+use Rattle.answer.specs.Words.{doneWords, refusedWords}
+use Rattle.facts.specs.declared.volumes.Laid.{Laid}
+use Rattle.facts.specs.declared.volumes.Laid.the-variants as laid
+use Rattle.facts.specs.declared.volumes.Labelled.{Labelled}
+use Rattle.facts.specs.declared.volumes.Labelled.the-variants as labelled
+use Rattle.facts.specs.declared.headers.Shown.{Shown}
+use Rattle.facts.specs.declared.headers.Shown.the-variants as shown
+use Rattle.facts.specs.declared.headers.Pointed.{Pointed}
+use Rattle.facts.specs.declared.headers.Pointed.the-variants as pointed
+use Rattle.facts.specs.declared.files.Described.{Described}
+use Rattle.facts.specs.declared.files.Described.the-variants as described
+
+-- N, the home's LBN, H.IBSZ, H.IBLB, H.FMAX, how many numbers have a slot, LBN and number of the blocks of the storage map's bits, H.VLEV.
+abbrev pub laidWords : Laid → List ℕ
+laidWords (laid.Done g) =
+    doneWords (
+    g .blocks
+    ∷ g .home
+    ∷ g .ibsz
+    ∷ g .iblb
+    ∷ g .fmax
+    ∷ g .slots
+    ∷ g .map
+    ∷ g .«map_blocks»
+    ∷ g .vlev
+    ∷ [])
+laidWords (laid.Refused r) = refusedWords r
+
+-- The six words of H.VNAM, H.VOWN, H.VPRO, H.VCHA, H.DFPR.
+abbrev pub labelledWords : Labelled → List ℕ
+labelledWords (labelled.Done l) =
+    doneWords (
+    l .name1
+    ∷ l .name2
+    ∷ l .name3
+    ∷ l .name4
+    ∷ l .name5
+    ∷ l .name6
+    ∷ l .owner
+    ∷ l .protection
+    ∷ l .characteristics
+    ∷ l .«default_protection»
+    ∷ [])
+labelledWords (labelled.Refused r) = refusedWords r
+
+-- H.FSEQ, segment number, M.EFNU, M.EFSQ, how many retrieval pointers, and the five words of the name in the ident area.
+abbrev pub shownWords : Shown → List ℕ
+shownWords (shown.Done f) =
+    doneWords (
+    f .sequence
+    ∷ f .segment
+    ∷ f .next
+    ∷ f .«next_sequence»
+    ∷ f .pointers
+    ∷ f .name .name1
+    ∷ f .name .name2
+    ∷ f .name .name3
+    ∷ f .name .typ
+    ∷ f .name .version
+    ∷ [])
+shownWords (shown.Refused r) = refusedWords r
+
+-- The first LBN that the retrieval pointer covers, and how many it covers.
+abbrev pub pointedWords : Pointed → List ℕ
+pointedWords (pointed.Done lbn count) = doneWords (lbn .0 ∷ count ∷ [])
+pointedWords (pointed.Refused r) = refusedWords r
+
+-- Block count, bytes before the end of file, H.FOWN, H.FPRO, H.FCHA, F.RTYP with F.RATT, F.RSIZ, F.HIBK, F.EFBK, F.FFBY.
+abbrev pub describedWords : Described → List ℕ
+describedWords (described.Done f) =
+    doneWords (
+    f .blocks
+    ∷ f .end
+    ∷ f .owner
+    ∷ f .protection
+    ∷ f .flags
+    ∷ f .«record_type»
+    ∷ f .«record_size»
+    ∷ f .highest
+    ∷ f .«end_block»
+    ∷ f .«first_free»
+    ∷ [])
+describedWords (described.Refused r) = refusedWords r

@@ -1,0 +1,64 @@
+// Extents of a file, and free blocks of a volume.
+use answer::types::FileId;
+use answer::types::Lbn;
+use answer::types::Vbn;
+use answer::words::put_done;
+use answer::words::put_refused;
+use extents::Extent;
+use extents::extent_from;
+use free::Free;
+use free::free_run;
+ghost use mathlib.Core.Path.{_≡_};
+ghost use Rattle.extents.specs.Extents.{extentAnswer};
+ghost use Rattle.free.specs.Free.{freeRun};
+ghost use Rattle.ods1.specs.Reading.{idOf};
+ghost use Rattle.ods1.specs.Space.{extentWords, freeWords};
+
+// The extent of a file from a VBN on: its LBN, and how many blocks lie in a row.
+#[no_mangle]
+pub extern "C" fn ods1_extent(
+    image: &[u8],
+    number: u16,
+    sequence: u16,
+    volume: u16,
+    vbn: u32,
+    answer: &mut [u64; 12],
+)
+    ensures { λ _. ⌜ now (answer .exit) ≡ extentWords (extentAnswer (now (image .entry)) (idOf number sequence volume) vbn) ⌝ }
+{
+    let extent = extent_from(
+        image,
+        FileId {
+            number,
+            sequence,
+            volume,
+        },
+        Vbn(vbn),
+    );
+    match extent {
+        Extent::Done(lbn, count) => {
+            let l = lbn.0;
+            put_done(answer, [l as u64, count as u64, 0, 0, 0, 0, 0, 0, 0, 0]);
+        }
+        Extent::Refused(r) => {
+            put_refused(answer, r);
+        }
+    }
+}
+
+// The first run of free blocks from an LBN on: its first LBN, and how many blocks it has.
+#[no_mangle]
+pub extern "C" fn ods1_free_run(image: &[u8], from: u32, answer: &mut [u64; 12])
+    ensures { λ _. ⌜ now (answer .exit) ≡ freeWords (freeRun (now (image .entry)) from) ⌝ }
+{
+    let found = free_run(image, Lbn(from));
+    match found {
+        Free::Done(lbn, count) => {
+            let first = lbn.0;
+            put_done(answer, [first as u64, count as u64, 0, 0, 0, 0, 0, 0, 0, 0]);
+        }
+        Free::Refused(r) => {
+            put_refused(answer, r);
+        }
+    }
+}
