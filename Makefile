@@ -1,6 +1,6 @@
 # What can be made here. `make` alone tells the same.
 
-.PHONY: help test bench judge
+.PHONY: help setup test bench judge
 
 # What is judged.
 IMAGE = samples/volume-v.dsk
@@ -11,12 +11,15 @@ help:
 	@echo 'make judge IMAGE=FILE prove and build the judging program, and judge the volume in FILE (at most 65,536 bytes);'
 	@echo '                      without IMAGE it judges Volume V, samples/volume-v.dsk'
 
-test:
+setup:
+	@scripts/setup.sh
+
+test: setup
 	@scripts/test.sh
 
 bench:
 	rt staticlib ods1
-	cd tests && cargo run --release --offline --locked -p bench
+	cargo run --release --offline --locked -p bench
 
 judge:
 	@test -r '$(IMAGE)' || { echo 'make judge: $(IMAGE) cannot be read' >&2; exit 2; }

@@ -72,13 +72,23 @@ add_cargo() {
     add "$1" "$good" "$bad"
 }
 
-# rust_format, rust_tests: the parts that run in the folder of the Rust tests.
-rust_format() (
-    cd tests && cargo fmt --all --check
-)
+# add_unittest NAME: counts a part by Python's lines 'Ran N tests ..', 'FAILED (failures=F, errors=E)'.
+add_unittest() {
+    local line good=0 bad=0
+    while read -r line; do
+        if [[ $line =~ ^Ran\ ([0-9]{1,9})\ tests?\  ]]; then
+            good=$((10#${BASH_REMATCH[1]}))
+        elif [[ $line =~ ^FAILED\ \((.*)\)$ ]]; then
+            [[ $line =~ failures=([0-9]{1,9}) ]] && ((bad += 10#${BASH_REMATCH[1]}))
+            [[ $line =~ errors=([0-9]{1,9}) ]] && ((bad += 10#${BASH_REMATCH[1]}))
+        fi
+    done <"$log"
+    add "$1" "$((good > bad ? good - bad : 0))" "$bad"
+}
 
-rust_tests() (
-    cd tests && cargo test --release --offline --locked --no-fail-fast
+# python_tests: builds what the Python bindings load, and runs their tests.
+python_tests() (
+    bindings/python/build.sh && cd bindings/python && python3 -m unittest 2>&1
 )
 
 heading 'this script, tried on parts that pass and fail'
@@ -105,7 +115,7 @@ library=$status
 
 heading 'cargo fmt --check'
 if cargo fmt --version >/dev/null 2>&1; then
-    run rust_format
+    run cargo fmt --all --check
     add_status 'cargo fmt --check'
 else
     printf 'left out: rustfmt is not installed\n'
@@ -113,12 +123,22 @@ fi
 
 heading 'cargo test'
 if ((library == 0)); then
-    run rust_tests
+    run cargo test --release --offline --locked --no-fail-fast
     add_cargo 'cargo test'
 else
     printf 'not run: there is no static library to test\n'
     status=1
     add 'cargo test' 0 1
+fi
+
+heading 'python3 -m unittest'
+if ((library == 0)); then
+    run python_tests
+    add_unittest 'python3 -m unittest'
+else
+    printf 'not run: there is no static library to test\n'
+    status=1
+    add 'python3 -m unittest' 0 1
 fi
 
 printf '\n%d passed, %d failed\n' "$passed" "$failed"

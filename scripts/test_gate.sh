@@ -14,7 +14,7 @@ commands=$scratch/commands
 passed=0
 failed=0
 
-mkdir -p "$repository"/{.ci,scripts,tests} "$commands"
+mkdir -p "$repository"/{.ci,scripts,bindings/python} "$commands"
 cp .ci/run "$repository/.ci/run"
 cp Makefile "$repository/Makefile"
 cp scripts/test.sh "$repository/scripts/test.sh"
@@ -29,6 +29,24 @@ pretend "$repository/scripts/test_gate.sh" <<'END'
 #!/usr/bin/env bash
 printf '%b' "${GATE_TEXT-2 passed, 0 failed\n}"
 exit "${GATE_STATUS-0}"
+END
+
+pretend "$repository/scripts/setup.sh" <<'END'
+#!/usr/bin/env bash
+exit "${SETUP_STATUS-0}"
+END
+
+pretend "$repository/bindings/python/build.sh" <<'END'
+#!/usr/bin/env bash
+[[ -f target/staticlib/libods1.a ]] || exit 98
+exit "${PYTHON_BUILD_STATUS-0}"
+END
+
+pretend "$commands/python3" <<'END'
+#!/usr/bin/env bash
+[[ "$*" == '-m unittest' && ${PWD##*/} == python ]] || exit 99
+printf '%b' "${PYTHON_TEXT-....\n----\nRan 50 tests in 1.0s\n\nOK\n}" >&2
+exit "${PYTHON_STATUS-0}"
 END
 
 pretend "$commands/rt" <<'END'
@@ -63,7 +81,7 @@ case "$*" in
     exit "${CARGO_FMT_STATUS-0}"
     ;;
 'test --release --offline --locked --no-fail-fast')
-    [[ -z ${ODS1_CASE-} && ${PWD##*/} == tests && -f ../target/staticlib/libods1.a ]] || exit 98
+    [[ -z ${ODS1_CASE-} && ${PWD##*/} == repository && -f target/staticlib/libods1.a ]] || exit 98
     usual='test result: ok. 100 passed; 0 failed; 0 ignored; 0 measured\n'
     usual+='test result: ok. 200 passed; 0 failed; 0 ignored; 0 measured\n'
     printf '%b' "${CARGO_TEST_TEXT-$usual}"
@@ -93,48 +111,60 @@ expect() {
     sed 's/^/  | /' "$scratch/output" "$scratch/errors"
 }
 
-# Where all is well: 2 of the gate, 1 rt fmt, 10 rt ci, 1 library, 1 cargo fmt, 300 cargo test.
-expect '315 passed, 0 failed' 0
-expect '314 passed, 0 failed' 0 RUSTFMT_MISSING=1
-expect '315 passed, 0 failed' 0 ODS1_CASE=5
-expect '315 passed, 0 failed' 0 RT_CI_TEXT='10 passed, 0 failed'
-expect '314 passed, 0 failed' 0 RT_CI_TEXT='1 passed, 7 failed\n09 passed, 0 failed\n'
+# Where all is well: 2 of the gate, 1 rt fmt, 10 rt ci, 1 library, 1 cargo fmt, 300 cargo test, 50 Python.
+expect '365 passed, 0 failed' 0
+expect '364 passed, 0 failed' 0 RUSTFMT_MISSING=1
+expect '365 passed, 0 failed' 0 ODS1_CASE=5
+expect '365 passed, 0 failed' 0 RT_CI_TEXT='10 passed, 0 failed'
+expect '364 passed, 0 failed' 0 RT_CI_TEXT='1 passed, 7 failed\n09 passed, 0 failed\n'
+expect '316 passed, 0 failed' 0 PYTHON_TEXT='Ran 1 test in 0.0s\n\nOK\n'
 
 # One check that fails, and those after it are still counted.
-expect '314 passed, 1 failed' 1 RT_FMT_STATUS=1
-expect '314 passed, 1 failed' 1 CARGO_FMT_STATUS=1
+expect '364 passed, 1 failed' 1 RT_FMT_STATUS=1
+expect '364 passed, 1 failed' 1 CARGO_FMT_STATUS=1
 
 # rt ci: failures counted, none counted, no count, a wrong one, and one that is not the last line.
-expect '312 passed, 3 failed' 1 RT_CI_STATUS=1 RT_CI_TEXT='7 passed, 3 failed\n'
-expect '312 passed, 3 failed' 1 RT_CI_STATUS=0 RT_CI_TEXT='7 passed, 3 failed\n'
-expect '315 passed, 1 failed' 1 RT_CI_STATUS=3
-expect '305 passed, 1 failed' 1 RT_CI_STATUS=2 RT_CI_TEXT=
-expect '305 passed, 1 failed' 1 RT_CI_STATUS=0 RT_CI_TEXT=
-expect '305 passed, 1 failed' 1 RT_CI_TEXT='0 passed, 0 failed\n'
-expect '305 passed, 1 failed' 1 RT_CI_TEXT='10 passed, 0 failed\nand more\n'
-expect '305 passed, 1 failed' 1 RT_CI_TEXT='some passed, 0 failed\n'
-expect '305 passed, 1 failed' 1 RT_CI_TEXT='-10 passed, 0 failed\n'
-expect '305 passed, 1 failed' 1 RT_CI_TEXT='10 passed, 0 failed, 1 skipped\n'
-expect '305 passed, 1 failed' 1 RT_CI_TEXT='99999999999999999999 passed, 0 failed\n'
+expect '362 passed, 3 failed' 1 RT_CI_STATUS=1 RT_CI_TEXT='7 passed, 3 failed\n'
+expect '362 passed, 3 failed' 1 RT_CI_STATUS=0 RT_CI_TEXT='7 passed, 3 failed\n'
+expect '365 passed, 1 failed' 1 RT_CI_STATUS=3
+expect '355 passed, 1 failed' 1 RT_CI_STATUS=2 RT_CI_TEXT=
+expect '355 passed, 1 failed' 1 RT_CI_STATUS=0 RT_CI_TEXT=
+expect '355 passed, 1 failed' 1 RT_CI_TEXT='0 passed, 0 failed\n'
+expect '355 passed, 1 failed' 1 RT_CI_TEXT='10 passed, 0 failed\nand more\n'
+expect '355 passed, 1 failed' 1 RT_CI_TEXT='some passed, 0 failed\n'
+expect '355 passed, 1 failed' 1 RT_CI_TEXT='-10 passed, 0 failed\n'
+expect '355 passed, 1 failed' 1 RT_CI_TEXT='10 passed, 0 failed, 1 skipped\n'
+expect '355 passed, 1 failed' 1 RT_CI_TEXT='99999999999999999999 passed, 0 failed\n'
 
-# The static library: refused, or said to be there and not there. The Rust tests are not run.
-expect '14 passed, 2 failed' 1 STATICLIB_STATUS=1
-expect '14 passed, 2 failed' 1 STATICLIB_STATUS=1 ARCHIVE=no
-expect '14 passed, 2 failed' 1 STATICLIB_STATUS=0 ARCHIVE=no
+# The static library: refused, or said to be there and not there. What needs it is not run.
+expect '14 passed, 3 failed' 1 STATICLIB_STATUS=1
+expect '14 passed, 3 failed' 1 STATICLIB_STATUS=1 ARCHIVE=no
+expect '14 passed, 3 failed' 1 STATICLIB_STATUS=0 ARCHIVE=no
 
 # cargo test: a failure counted, a build that fails, a crash, and runs that test nothing.
 three='test result: FAILED. 5 passed; 3 failed; 0 ignored\ntest result: ok. 4 passed; 0 failed; 0\n'
-expect '24 passed, 3 failed' 1 CARGO_TEST_STATUS=101 CARGO_TEST_TEXT="$three"
-expect '24 passed, 3 failed' 1 CARGO_TEST_STATUS=0 CARGO_TEST_TEXT="$three"
-expect '15 passed, 1 failed' 1 CARGO_TEST_STATUS=101 CARGO_TEST_TEXT=
-expect '15 passed, 1 failed' 1 CARGO_TEST_STATUS=0 CARGO_TEST_TEXT='running\n'
-expect '15 passed, 1 failed' 1 CARGO_TEST_TEXT='test result: ok. 0 passed; 0 failed; 0 ignored\n'
-expect '315 passed, 1 failed' 1 CARGO_TEST_STATUS=101
+expect '74 passed, 3 failed' 1 CARGO_TEST_STATUS=101 CARGO_TEST_TEXT="$three"
+expect '74 passed, 3 failed' 1 CARGO_TEST_STATUS=0 CARGO_TEST_TEXT="$three"
+expect '65 passed, 1 failed' 1 CARGO_TEST_STATUS=101 CARGO_TEST_TEXT=
+expect '65 passed, 1 failed' 1 CARGO_TEST_STATUS=0 CARGO_TEST_TEXT='running\n'
+expect '65 passed, 1 failed' 1 CARGO_TEST_TEXT='test result: ok. 0 passed; 0 failed; 0 ignored\n'
+expect '365 passed, 1 failed' 1 CARGO_TEST_STATUS=101
+
+# Python: failures and errors counted, a library that is not built, a crash, and a run that tests nothing.
+expect '360 passed, 5 failed' 1 PYTHON_STATUS=1 PYTHON_TEXT='Ran 50 tests in 1s\n\nFAILED (failures=3, errors=2)\n'
+expect '364 passed, 1 failed' 1 PYTHON_STATUS=1 PYTHON_TEXT='Ran 50 tests in 1s\n\nFAILED (errors=1)\n'
+expect '315 passed, 1 failed' 1 PYTHON_BUILD_STATUS=1
+expect '315 passed, 1 failed' 1 PYTHON_STATUS=1 PYTHON_TEXT='Traceback\n'
+expect '315 passed, 1 failed' 1 PYTHON_TEXT='Ran 0 tests in 0s\n\nOK\n'
+expect '365 passed, 1 failed' 1 PYTHON_STATUS=139
 
 # This script itself fails; and everything fails at once.
-expect '314 passed, 1 failed' 1 GATE_STATUS=1 GATE_TEXT='1 passed, 1 failed\n'
-expect '0 passed, 6 failed' 1 GATE_STATUS=127 GATE_TEXT= RT_FMT_STATUS=127 RT_CI_STATUS=127 \
+expect '364 passed, 1 failed' 1 GATE_STATUS=1 GATE_TEXT='1 passed, 1 failed\n'
+expect '0 passed, 7 failed' 1 GATE_STATUS=127 GATE_TEXT= RT_FMT_STATUS=127 RT_CI_STATUS=127 \
     RT_CI_TEXT= STATICLIB_STATUS=127 ARCHIVE=no CARGO_FMT_STATUS=127
+
+# What the tests build with cannot be had: nothing is counted, and the gate fails.
+expect '' 1 SETUP_STATUS=1
 
 printf '%d passed, %d failed\n' "$passed" "$failed"
 ((failed == 0))

@@ -1,4 +1,4 @@
-//! Links the proved static library, which stands beside the tests in the repository.
+//! Links the proved static library, which the kit writes below target/.
 
 use std::env;
 use std::path::Path;
