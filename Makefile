@@ -1,29 +1,54 @@
 # What can be made here. `make` alone tells the same.
 
-.PHONY: help setup test bench judge
+.PHONY: help setup tool judge test bench install
 
 # What is judged.
 IMAGE = samples/volume-v.dsk
 
+# Where the tool is installed.
+PREFIX = /usr/local
+
+LIBRARY = target/staticlib/libods1.a
+TOOL = target/cargo/release/ods1
+CARGO = cargo --quiet
+
+# Where cargo's own installer puts it, if nothing else says where it is.
+export PATH := $(PATH):$(or $(CARGO_HOME),$(HOME)/.cargo)/bin
+
 help:
-	@echo 'make test             prove every crate, build the library and run every test: what the gate runs'
-	@echo 'make bench            measure the exported calls against plain Rust'
-	@echo 'make judge IMAGE=FILE prove and build the judging program, and judge the volume in FILE (at most 65,536 bytes);'
+	@echo 'make judge IMAGE=FILE build the proved library and the tool, and judge the volume in FILE;'
 	@echo '                      without IMAGE it judges Volume V, samples/volume-v.dsk'
+	@echo 'make test             prove every crate, build everything and run every test: what the gate runs'
+	@echo 'make tool             build the tool, $(TOOL)'
+	@echo 'make install          install it with its man page and completions below PREFIX, $(PREFIX)'
+	@echo 'make bench            measure the exported calls against plain Rust, and the tool against its calls'
+	@echo 'make setup            install what is missing of what these build with'
 
 setup:
 	@scripts/setup.sh
 
+$(LIBRARY): crates.txt $(shell find crates -type f 2>/dev/null)
+	@echo 'proving and building the library, which takes some minutes once' >&2
+	@mkdir -p target
+	@rt staticlib ods1 >target/staticlib.log 2>&1 || { cat target/staticlib.log >&2; exit 1; }
+
+tool: setup $(LIBRARY)
+	@$(CARGO) build --release --offline --locked -p ods1-tool
+
+judge: tool
+	@$(TOOL) judge '$(IMAGE)'
+
 test: setup
 	@scripts/test.sh
 
-bench:
-	rt staticlib ods1
-	cargo run --release --offline --locked -p bench
+bench: tool
+	$(CARGO) run --release --offline --locked -p bench
 
-judge:
-	@test -r '$(IMAGE)' || { echo 'make judge: $(IMAGE) cannot be read' >&2; exit 2; }
-	@mkdir -p target
-	@test -x target/bin/judge || echo 'proving and building the judging program, which takes some minutes once' >&2
-	@rt check judge >target/judge.log 2>&1 || { cat target/judge.log >&2; exit 1; }
-	@target/bin/judge <'$(IMAGE)'
+install: tool
+	install -D -m 755 $(TOOL) '$(DESTDIR)$(PREFIX)/bin/ods1'
+	install -d '$(DESTDIR)$(PREFIX)/share/man/man1' '$(DESTDIR)$(PREFIX)/share/bash-completion/completions' \
+	    '$(DESTDIR)$(PREFIX)/share/zsh/site-functions' '$(DESTDIR)$(PREFIX)/share/fish/vendor_completions.d'
+	$(TOOL) man >'$(DESTDIR)$(PREFIX)/share/man/man1/ods1.1'
+	$(TOOL) completions bash >'$(DESTDIR)$(PREFIX)/share/bash-completion/completions/ods1'
+	$(TOOL) completions zsh >'$(DESTDIR)$(PREFIX)/share/zsh/site-functions/_ods1'
+	$(TOOL) completions fish >'$(DESTDIR)$(PREFIX)/share/fish/vendor_completions.d/ods1.fish'
