@@ -7,6 +7,7 @@ use serde_json::{json, Value};
 use crate::failure::{Outcome, While};
 use crate::output::{answer, counted, range, Report};
 use crate::paths::{label_text, uic_text};
+use crate::progress::Progress;
 
 /// How many free runs are shown, the largest first, unless all are asked for.
 const SHOWN: usize = 10;
@@ -71,6 +72,18 @@ fn runs_text(runs: &[Extent], all: bool) -> String {
     text
 }
 
+/// The free runs of a volume of so many blocks, in order.
+fn free_runs(image: &[u8], blocks: u32) -> Vec<Extent> {
+    let mut progress = Progress::new("reading the storage map", blocks.into());
+    let mut seen = 0;
+    let runs = ods1::free_runs(image).inspect(|run| {
+        let end = run.lbn + run.blocks;
+        progress.step(u64::from(end - seen));
+        seen = end;
+    });
+    runs.collect()
+}
+
 fn members(geometry: &Geometry, label: &Label, verdict: &Answer<Counts>, runs: &[Extent]) -> Value {
     let runs = runs
         .iter()
@@ -111,7 +124,7 @@ pub fn run(arguments: &ArgMatches) -> Outcome<Report> {
     let label = ods1::label(&image).while_doing("opening the volume")?;
     let mut areas = WorkAreas::for_length(image.len());
     let verdict = ods1::judge(&image, &mut areas);
-    let runs: Vec<Extent> = ods1::free_runs(&image).collect();
+    let runs = free_runs(&image, geometry.blocks);
     let all = arguments.get_flag("all");
     let text = volume_text(&geometry, &label) + &verdict_text(&verdict) + &runs_text(&runs, all);
     let mut report = Report::new(text, members(&geometry, &label, &verdict, &runs));
