@@ -1,12 +1,12 @@
 //! What is asked of a volume: IDs, VBNs, names and record places near every edge.
 
 use crate::images::Asked;
-use model::file;
-use model::Id;
+use model::file::{self, Opened};
+use model::{runs, Id};
 use volumes::block::word;
 use volumes::directory::name_words;
 use volumes::header::at;
-use volumes::volume::BLOCK_RECORDS;
+use volumes::volume::{BLOCK_RECORDS, MAP_BITS};
 use volumes::{Random, Volume};
 
 /// IDs near every edge: those of files and of extension headers, with the right sequence, with one
@@ -24,9 +24,23 @@ pub fn ids(volume: &Volume) -> Vec<Id> {
             ids.push([extension.number, extension.sequence ^ 1, 0]);
         }
     }
+    for number in bounds(volume) {
+        let sequence = sequence_of(volume, number);
+        ids.push([number, sequence, 0]);
+        ids.push([number, sequence ^ 1, 0]);
+        ids.push([number, sequence, 32_768]);
+    }
+    ids.sort_unstable();
+    ids.dedup();
+    ids.into_iter().map(Id::from_words).collect()
+}
+
+/// Numbers at the bounds: of the known files, of the first slots, of H.FMAX, of all slots and of
+/// everything.
+fn bounds(volume: &Volume) -> [u16; 13] {
     let h_fmax = volume.plan.h_fmax;
     let last_slot = u16::try_from(volume.last_slot()).unwrap_or(u16::MAX);
-    let bounds = [
+    [
         0,
         1,
         5,
@@ -40,16 +54,68 @@ pub fn ids(volume: &Volume) -> Vec<Id> {
         last_slot,
         last_slot.wrapping_add(1),
         65_535,
-    ];
-    for number in bounds {
-        let sequence = sequence_of(volume, number);
-        ids.push([number, sequence, 0]);
-        ids.push([number, sequence ^ 1, 0]);
-        ids.push([number, sequence, 32_768]);
+    ]
+}
+
+/// Numbers of headers: those of every header of a file, and those at the bounds.
+pub fn numbers(volume: &Volume) -> Vec<u16> {
+    let mut numbers = bounds(volume).to_vec();
+    numbers.extend(volume.headers().map(|header| header.number));
+    numbers.extend(volume.unused_number());
+    numbers.sort_unstable();
+    numbers.dedup();
+    numbers
+}
+
+/// Places of retrieval pointers near every edge of a header that has so many: the first, the last, one
+/// past it, the last that any header can have, and beyond.
+pub fn pointer_places(random: &mut Random, pointers: u32) -> Vec<u32> {
+    let mut places = vec![0, 1, 101, 102, 112, 113, 255, 1 << 31, u32::MAX];
+    places.extend([pointers.saturating_sub(1), pointers, pointers + 1]);
+    if pointers > 2 {
+        places.push(random.long_between(1, pointers - 1));
     }
-    ids.sort_unstable();
-    ids.dedup();
-    ids.into_iter().map(Id::from_words).collect()
+    places.sort_unstable();
+    places.dedup();
+    places
+}
+
+/// VBNs near every edge of the rows of a file's blocks, as the model finds them: where each starts, one
+/// after it, the last of all and one past it; and some of any kind.
+pub fn row_vbns(random: &mut Random, opened: &Opened) -> Vec<u32> {
+    let mut vbns = vec![0, 1, 2, u32::MAX];
+    if let Ok(file) = opened {
+        let blocks = file.blocks() as u32;
+        let starts = runs::row_starts(file).into_iter();
+        vbns.extend(starts.flat_map(|it| [it.0 as u32, it.0 as u32 + 1]));
+        vbns.extend([blocks.saturating_sub(1), blocks, blocks + 1]);
+        vbns.extend((0..3).map(|_| random.long_between(0, blocks + 1)));
+    }
+    vbns.sort_unstable();
+    vbns.dedup();
+    vbns
+}
+
+/// LBNs to look for free blocks from: the bounds of the image and of the blocks of its map, and some of
+/// any kind.
+pub fn free_starts(random: &mut Random, volume: &Volume) -> Vec<u32> {
+    let blocks = volume.plan.blocks;
+    let mut starts = vec![0, 1, blocks - 1, blocks, blocks + 1, 1 << 31, u32::MAX];
+    if blocks > MAP_BITS {
+        let edge = MAP_BITS * random.long_between(1, (blocks - 1) / MAP_BITS);
+        starts.extend([edge - 1, edge, edge + 1]);
+    }
+    starts.extend((0..4).map(|_| random.long_between(0, blocks - 1)));
+    starts
+}
+
+/// All items, or so many of them where there are more.
+pub fn some_or_all<Item: Copy>(random: &mut Random, items: &[Item], most: usize) -> Vec<Item> {
+    if items.len() <= most {
+        items.to_vec()
+    } else {
+        some(random, items, most)
+    }
 }
 
 /// The sequence in a number's slot, so that the ID may open; 1 where there is no slot.
@@ -213,6 +279,33 @@ mod tests {
         let found = places(&volume, &volume.image, id([4, 4, 0]));
         for place in [0, 1, 31, 32, 33, u32::MAX] {
             assert!(found.contains(&place), "{place}");
+        }
+    }
+
+    #[test]
+    fn numbers_and_pointer_places_of_volume_v() {
+        let numbers = numbers(&volume_v());
+        for number in [0, 1, 6, 7, 16, 17, 65_535] {
+            assert!(numbers.contains(&number), "{number}");
+        }
+        let places = pointer_places(&mut Random::new(1), 2);
+        for place in [0, 1, 2, 3, u32::MAX] {
+            assert!(places.contains(&place), "{place}");
+        }
+    }
+
+    #[test]
+    fn rows_and_free_starts_of_volume_v() {
+        let volume = volume_v();
+        let mut random = Random::new(1);
+        let opened = file::open(&volume.image, id([6, 9, 0]));
+        let vbns = row_vbns(&mut random, &opened);
+        for vbn in [0, 1, 2, 3, 4, u32::MAX] {
+            assert!(vbns.contains(&vbn), "{vbn}");
+        }
+        let starts = free_starts(&mut random, &volume);
+        for start in [0, 99, 100, 101, u32::MAX] {
+            assert!(starts.contains(&start), "{start}");
         }
     }
 

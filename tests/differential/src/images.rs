@@ -4,7 +4,8 @@ use crate::run::{first_difference, show_answer, Line, Run};
 use library::Words;
 use model::file::{self, Opened};
 use model::volume::{self, BadLink};
-use model::{directory, Id, Name, Number, Vbn};
+use model::{attributes, directory, facts, runs};
+use model::{FileNumber, Id, Lbn, Name, Number, Vbn};
 
 /// A call on an image, with its arguments.
 #[derive(Clone, Copy, Debug, PartialEq, Eq)]
@@ -15,6 +16,13 @@ pub enum Call {
     Block(Id, u32),
     LookUp(Id, [u16; 5]),
     NextRecord(Id, u32),
+    Geometry,
+    Label,
+    Header(u16),
+    Pointer(u16, u32),
+    Attributes(Id),
+    Extent(Id, u32),
+    FreeRun(u32),
 }
 
 impl Call {
@@ -27,6 +35,13 @@ impl Call {
             Call::Block(..) => "block",
             Call::LookUp(..) => "look_up",
             Call::NextRecord(..) => "next_record",
+            Call::Geometry => "geometry",
+            Call::Label => "label",
+            Call::Header(_) => "header",
+            Call::Pointer(..) => "pointer",
+            Call::Attributes(_) => "attributes",
+            Call::Extent(..) => "extent",
+            Call::FreeRun(_) => "free_run",
         }
     }
 
@@ -39,18 +54,34 @@ impl Call {
             Call::Block(id, vbn) => library::block(image, id.words(), vbn),
             Call::LookUp(id, name) => library::look_up(image, id.words(), name),
             Call::NextRecord(id, place) => library::next_record(image, id.words(), place),
+            Call::Geometry => library::geometry(image),
+            Call::Label => library::label(image),
+            Call::Header(number) => library::header(image, number),
+            Call::Pointer(number, place) => library::pointer(image, number, place),
+            Call::Attributes(id) => library::attributes(image, id.words()),
+            Call::Extent(id, vbn) => library::extent(image, id.words(), vbn),
+            Call::FreeRun(from) => library::free_run(image, from),
         }
     }
 
-    /// What the model answers. The file of the call's ID is opened already.
-    fn by_model(self, image: &[u8], opened: &Opened) -> Words {
+    /// What the model answers. The volume, and the file of the call's ID, are opened already.
+    fn by_model(self, volume: &volume::Opened, file: &Opened) -> Words {
         let answer = match self {
-            Call::OpenVolume => volume::open_volume(image),
-            Call::OpenFile(_) => file::answer_open(opened),
-            Call::Map(_, vbn) => file::answer_map(opened, Vbn(vbn.into())),
-            Call::Block(_, vbn) => file::answer_block(opened, Vbn(vbn.into())),
-            Call::LookUp(_, name) => directory::answer_look_up(opened, &Name::from_words(name)),
-            Call::NextRecord(_, place) => directory::answer_next_record(opened, place.into()),
+            Call::OpenVolume => volume::answer_open(volume),
+            Call::OpenFile(_) => file::answer_open(file),
+            Call::Map(_, vbn) => file::answer_map(file, Vbn(vbn.into())),
+            Call::Block(_, vbn) => file::answer_block(file, Vbn(vbn.into())),
+            Call::LookUp(_, name) => directory::answer_look_up(file, &Name::from_words(name)),
+            Call::NextRecord(_, place) => directory::answer_next_record(file, place.into()),
+            Call::Geometry => facts::answer_geometry(volume),
+            Call::Label => facts::answer_label(volume),
+            Call::Header(number) => facts::answer_header(volume, FileNumber(number.into())),
+            Call::Pointer(number, place) => {
+                facts::answer_pointer(volume, FileNumber(number.into()), place.into())
+            }
+            Call::Attributes(id) => attributes::answer_attributes(volume, id),
+            Call::Extent(_, vbn) => runs::answer_extent(file, Vbn(vbn.into())),
+            Call::FreeRun(from) => runs::answer_free_run(volume, Lbn(from.into())),
         };
         answer.words()
     }
@@ -72,10 +103,16 @@ pub struct Subject<'a> {
 }
 
 impl Subject<'_> {
-    /// Compares one call of library and model: all words of the answer.
-    fn compare(&self, run: &mut Run, call: Call, opened: &Opened) {
+    /// Compares one call of library and model: all words of the answer. The volume, and the file of the
+    /// call's ID, are opened already.
+    pub(crate) fn compare(
+        &self,
+        run: &mut Run,
+        call: Call,
+        (volume, file): (&volume::Opened, &Opened),
+    ) {
         let answer = call.by_library(self.image);
-        let expected = call.by_model(self.image, opened);
+        let expected = call.by_model(volume, file);
         run.meet(call.name(), expected[0]);
         if answer != expected {
             self.fail(run, call, &answer, &expected, "model");
@@ -115,27 +152,35 @@ impl Subject<'_> {
         run.fail("the library answers otherwise", &lines);
     }
 
+    /// Compares a call that is not on a file.
+    pub(crate) fn compare_alone(&self, run: &mut Run, call: Call, volume: &volume::Opened) {
+        let no_file = Err(Number::Number);
+        self.compare(run, call, (volume, &no_file));
+    }
+
     /// Compares opening the volume.
     pub fn compare_volume(&self, run: &mut Run) {
-        let nothing = Err(Number::Number);
-        self.compare(run, Call::OpenVolume, &nothing);
+        let volume = volume::open(self.image);
+        self.compare_alone(run, Call::OpenVolume, &volume);
     }
 
     /// Compares all that is asked of one file.
     pub fn compare_file(&self, run: &mut Run, asked: &Asked) {
         let id = asked.id;
-        let opened = file::open(self.image, id);
-        self.meet_cause(run, id, &opened);
-        self.compare(run, Call::OpenFile(id), &opened);
+        let volume = volume::open(self.image);
+        let file = file::open_in(&volume, id);
+        let opened = (&volume, &file);
+        self.meet_cause(run, id, &file);
+        self.compare(run, Call::OpenFile(id), opened);
         for &vbn in &asked.vbns {
-            self.compare(run, Call::Map(id, vbn), &opened);
-            self.compare(run, Call::Block(id, vbn), &opened);
+            self.compare(run, Call::Map(id, vbn), opened);
+            self.compare(run, Call::Block(id, vbn), opened);
         }
         for &name in &asked.names {
-            self.compare(run, Call::LookUp(id, name), &opened);
+            self.compare(run, Call::LookUp(id, name), opened);
         }
         for &place in &asked.places {
-            self.compare(run, Call::NextRecord(id, place), &opened);
+            self.compare(run, Call::NextRecord(id, place), opened);
         }
     }
 

@@ -3,6 +3,7 @@
 //! * [`run`]: numbers and counts the cases of a test, and reports a case that differs;
 //! * [`names`]: the comparisons of the calls on names, and the names and texts that they use;
 //! * [`images`]: the comparisons of the calls on images;
+//! * [`facts`]: the comparisons of the calls that tell what a volume and its files say;
 //! * [`judging`]: the comparisons of the verdict, with its work areas;
 //! * [`writing`]: the comparisons of create, extend and delete, with the image that they change;
 //! * [`lists`]: lists of those calls, and what demand 3 says of an image after one;
@@ -18,6 +19,7 @@
 #![forbid(unsafe_code)]
 
 pub mod asked;
+pub mod facts;
 pub mod images;
 pub mod judging;
 pub mod lists;

@@ -231,7 +231,7 @@ impl Run {
 }
 
 /// The kinds of things met that are calls, and their numbers answers.
-pub const CALLS: [&str; 10] = [
+pub const CALLS: [&str; 17] = [
     "open_volume",
     "open_file",
     "map",
@@ -242,6 +242,13 @@ pub const CALLS: [&str; 10] = [
     "create",
     "extend",
     "delete",
+    "geometry",
+    "label",
+    "header",
+    "pointer",
+    "attributes",
+    "extent",
+    "free_run",
 ];
 
 /// Tells something past the test harness, which keeps back what a passing test prints.

@@ -2,22 +2,30 @@
 //! against the model.
 
 use differential::asked::{ids, some_of_volume};
+use differential::facts::{expect_all_met, expect_each_met, Depth};
 use differential::images::{Asked, Call, Subject, BAD_LINK, UNMET_TEST};
 use differential::judging::{Desk, OFFENCE};
 use differential::{Random, Run};
 use library::Lender;
-use model::Id;
+use model::{Id, Number};
 use volumes::accident::{random_changes, random_image, random_length};
 use volumes::damage::{damages, volumes_to_damage, Checksums, Damage, Expected};
 use volumes::shapes::{random_volume, Size};
 use volumes::volume_v::{volume_v, READS};
 use volumes::Volume;
 
-/// The call that a damage says the answer of.
-fn call_of(expected: Expected) -> Call {
+/// The calls that a damage says the answer of.
+fn calls_of(expected: Expected) -> Vec<Call> {
     match expected {
-        Expected::Volume(_) => Call::OpenVolume,
-        Expected::File(id, _) => Call::OpenFile(id),
+        Expected::Volume(_) => vec![Call::OpenVolume, Call::Geometry, Call::Label],
+        Expected::File(id, Number::Number | Number::Header) => vec![
+            Call::OpenFile(id),
+            Call::Attributes(id),
+            Call::Extent(id, 0),
+            Call::Header(id.number),
+            Call::Pointer(id.number, 0),
+        ],
+        Expected::File(id, _) => vec![Call::OpenFile(id), Call::Attributes(id)],
     }
 }
 
@@ -35,6 +43,7 @@ fn compare_damaged(
     for asked in some_of_volume(random, sound, subject.image) {
         subject.compare_file(run, &asked);
     }
+    subject.compare_facts(run, random, sound, Depth::SOME);
 }
 
 /// One named damage of a volume, if it applies: what the paper says of it, and the model.
@@ -62,7 +71,9 @@ fn compare_named(
         image: lender.lend(&damaged.image),
         story: &story,
     };
-    subject.expect(run, call_of(expected), expected.number());
+    for call in calls_of(expected) {
+        subject.expect(run, call, expected.number());
+    }
     compare_damaged(run, &mut random, desk, sound, &subject);
 }
 
@@ -88,6 +99,7 @@ fn named_damages() {
         run.expect_met("judge", [0, 2, 3, 4, 5, 16, 17, 18], 200);
         run.expect_met("judge", [19], 20);
         run.expect_met(OFFENCE, 1..=12, 10);
+        expect_all_met(run, 100);
     });
 }
 
@@ -130,6 +142,7 @@ fn damages_together() {
         run.expect_met("open_file", 7..=12, 20);
         run.expect_met("judge", [16, 17], 50);
         run.expect_met("judge", [18], 20);
+        expect_all_met(run, 25);
     });
 }
 
@@ -166,6 +179,7 @@ fn random_damages() {
         run.expect_met("judge", [0, 2, 3, 4, 5, 16, 17, 18], 100);
         run.expect_met("judge", [19, 21], 40);
         run.expect_met(OFFENCE, (1..=12).chain(31..=35), 5);
+        expect_all_met(run, 100);
     });
 }
 
@@ -189,6 +203,7 @@ fn random_damages_of_volume_v() {
         run.expect_met("open_volume", [0, 2, 3, 4, 5], 100);
         run.expect_met("open_file", [7, 8, 9, 10, 11, 12], 20);
         run.expect_met("judge", [0, 16, 17, 18, 19, 21], 20);
+        expect_all_met(run, 10);
     });
 }
 
@@ -224,10 +239,12 @@ fn random_images() {
                 let id = Id::from_words([number, number, 0]);
                 subject.compare_file(run, &few_of(id));
             }
+            subject.compare_few_facts(run, random, &[0, 1, 2, 17]);
         });
         run.expect_met("open_volume", [1, 2, 3, 4, 5], 50);
         run.expect_met("next_record", [15], 1_000);
         run.expect_met("judge", [1, 2, 3, 4, 5], 50);
+        expect_each_met(run, &[1, 2, 3, 4, 5], 50);
     });
 }
 
@@ -261,6 +278,7 @@ fn other_lengths() {
             for id in [sound.file(sound.roles.plain).id(), *random.pick(&ids)] {
                 subject.compare_file(run, &few_of(id));
             }
+            subject.compare_facts(run, random, &sound, Depth::SOME);
         });
         run.expect_met("open_volume", [0, 1, 2, 4, 5], 20);
         run.expect_met("open_file", [1], 500);
@@ -269,5 +287,7 @@ fn other_lengths() {
         run.expect_met("look_up", [1], 500);
         run.expect_met("judge", [1], 500);
         run.expect_met("judge", [0, 4, 5, 17, 21], 10);
+        expect_each_met(run, &[1], 500);
+        expect_each_met(run, &[0, 2, 4, 5], 20);
     });
 }

@@ -23,7 +23,7 @@ fn program() -> PathBuf {
     let path = Path::new(env!("CARGO_MANIFEST_DIR")).join("../../target/bin/judge");
     assert!(
         path.is_file(),
-        "target/bin/judge is missing: run rt check judge at the root of the repository"
+        "target/bin/judge is missing: run make judge at the root of the repository"
     );
     path
 }

@@ -1,6 +1,7 @@
 //! The verdict on the largest volumes: maps of 126, 255 and 16 blocks, a home at the last position
 //! with 4,079 passed over, a bad block file of 37 headers, and offenders with high places.
 
+use differential::facts::{expect_each_met, Depth};
 use differential::images::{digest, Subject};
 use differential::judging::{needed, Areas, Desk};
 use differential::{Random, Run};
@@ -67,6 +68,7 @@ impl Judging<'_> {
         let areas = Areas::random(&mut self.random, n, h_fmax);
         let counts = [blocks, claimed, blocks - claimed, headers];
         subject.expect_counts(self.run, &mut self.desk, &areas, counts);
+        subject.compare_facts(self.run, &mut self.random, &self.volume, Depth::LARGE);
         assert_eq!(digest(&self.volume.image), before, "it was written to");
     }
 }
@@ -147,6 +149,7 @@ fn the_largest_volume() {
         });
         run.expect_met("judge", [0], 1);
         run.expect_met("judge", [17, 18, 19, 20, 21], 2);
+        expect_each_met(run, &[0], 1);
     });
 }
 
@@ -167,5 +170,6 @@ fn bits_past_the_last_block() {
             judging.refused(Number::Badhome, 256, |volume| leave_out(volume, 256));
         });
         run.expect_met("judge", [0], 2);
+        expect_each_met(run, &[0], 2);
     });
 }

@@ -2,14 +2,33 @@
 //! home at the last position, and a chain of 256 full headers.
 
 use differential::asked::ids;
+use differential::facts::{expect_each_met, Depth};
 use differential::images::{digest, Asked, Call, Subject};
 use differential::{Random, Run};
 use library::Lender;
 use model::{Id, Number};
 use volumes::directory::name_words;
+use volumes::facts::{End, Facts};
 use volumes::header::{pointers_of, Areas, Header, Pointer, MOST_POINTERS};
 use volumes::shapes::MOST_BLOCKS;
+use volumes::station::LABEL;
 use volumes::volume::{File, Plan, Record, Volume};
+
+/// What the chained file says: its end is in its last block, and F.HIBK has a high word.
+const FACTS: Facts = Facts {
+    owner: 0x0107,
+    protection: 0xe000,
+    record_type: 1,
+    record_attributes: 8,
+    record_size: 512,
+    highest: 0x0001_7202,
+    end: End {
+        block: 29_186,
+        first_free: 511,
+        bytes: 29_185 * 512 + 511,
+    },
+    name: [1, 2, 3, 4, 5],
+};
 
 /// A volume of N blocks with files 1 to 5 and a chained file of high numbers and high LBNs.
 fn large_volume(plan: Plan) -> Volume {
@@ -18,6 +37,7 @@ fn large_volume(plan: Plan) -> Volume {
     let storage = pointers_of(&plan.storage_lbns());
     let image = vec![0; 512 * blocks as usize];
     let mut volume = Volume::new(plan, image);
+    volume.put_label(LABEL);
     let pointer = |lbn: u32, blocks: u32| Pointer { lbn, blocks };
     for header in [
         Header {
@@ -36,6 +56,7 @@ fn large_volume(plan: Plan) -> Volume {
     let last = volume.last_slot().min(volume.plan.h_fmax.into()) as u16;
     let first = Header {
         link: (last - 1, 0),
+        facts: Some(FACTS),
         ..Header::new(
             last,
             65_535,
@@ -105,6 +126,27 @@ const VBNS: [u32; 14] = [
     u32::MAX,
 ];
 
+/// What the builder put there, of the chained file and of the storage map.
+fn expect_facts(run: &mut Run, subject: &Subject, volume: &Volume) {
+    let chained = volume.files[5].id();
+    let blocks = u64::from(volume.plan.blocks);
+    let words = [
+        29_186, 14_943_231, 0x0107, 0xe000, 0, 0x0801, 512, 0x17202, 29_186, 511,
+    ];
+    subject.expect_words(run, Call::Attributes(chained), &words);
+    subject.expect_words(run, Call::Extent(chained, 1), &[65_535, 2]);
+    subject.expect_words(run, Call::Extent(chained, 3), &[131_071, 256]);
+    // Every pointer of the second header covers the last blocks of all.
+    subject.expect_words(run, Call::Extent(chained, 259), &[blocks - 256, 256]);
+    subject.expect_words(run, Call::Extent(chained, 29_186), &[blocks - 1, 1]);
+    subject.expect(run, Call::Extent(chained, 29_187), Number::Vbn);
+    let covered = volume.covered();
+    let last = covered.iter().rposition(|&covered| !covered);
+    let last = last.expect("a block that is free") as u32;
+    subject.expect_words(run, Call::FreeRun(last), &[last.into(), 1]);
+    subject.expect(run, Call::FreeRun(last + 1), Number::Absent);
+}
+
 /// Compares a volume of N blocks. It is too large to be lent by copy, so that it is lent as it is.
 fn compare_large(run: &mut Run, volume: &Volume) {
     if !run.next_case() {
@@ -145,6 +187,9 @@ fn compare_large(run: &mut Run, volume: &Volume) {
         places: vec![0, 31, 32, 94, 95, 96, u32::MAX],
     };
     subject.compare_file(run, &directory);
+    expect_facts(run, &subject, volume);
+    let mut random = Random::new(run.seed());
+    subject.compare_facts(run, &mut random, volume, Depth::LARGE);
     assert_eq!(digest(image), before, "the image was written to");
 }
 
@@ -169,6 +214,10 @@ fn the_largest_volumes() {
         run.expect_met("open_file", [0, 6, 7, 9, 10], 2);
         run.expect_met("map", [0, 13], 30);
         run.expect_met("look_up", [0, 14, 15], 2);
+        expect_each_met(run, &[0], 2);
+        run.expect_met("pointer", [15], 2);
+        run.expect_met("extent", [13], 2);
+        run.expect_met("free_run", [15], 2);
     });
 }
 
@@ -257,6 +306,13 @@ fn the_longest_file() {
                 .collect(),
         };
         subject.compare_file(run, &asked);
+        // Each row is one pointer, since all pointers cover the same blocks.
+        subject.expect_words(run, Call::Extent(id, 1), &[2, 256]);
+        subject.expect_words(run, Call::Extent(id, blocks - 254), &[3, 255]);
+        subject.expect_words(run, Call::Extent(id, blocks), &[257, 1]);
+        subject.expect(run, Call::Extent(id, blocks + 1), Number::Vbn);
+        let bytes = 512 * u64::from(blocks);
+        subject.expect_words(run, Call::Attributes(id), &[u64::from(blocks), bytes]);
         run.expect_met("map", [0], 40);
     });
 }

@@ -2,6 +2,7 @@
 //! and against the model.
 
 use differential::asked::{all_of, ids, opening_of, places, some, some_of};
+use differential::facts::{expect_each_met, Depth};
 use differential::images::{Call, Subject};
 use differential::Run;
 use library::Lender;
@@ -79,6 +80,7 @@ fn expect_as_built(run: &mut Run, random: &mut Random, subject: &Subject, volume
     for directory in [4, volume.roles.directory] {
         expect_walk(run, subject, volume, directory);
     }
+    subject.expect_facts(run, volume);
 }
 
 /// A volume: as it was built, and everything that is asked, against the model.
@@ -106,6 +108,7 @@ fn compare_volume(run: &mut Run, random: &mut Random, lender: &mut Lender, size:
         let asked = some_of(random, &volume, image, id);
         subject.compare_file(run, &asked);
     }
+    subject.compare_facts(run, random, &volume, Depth::MUCH);
 }
 
 /// Random sound volumes of a size.
@@ -121,6 +124,14 @@ fn compare_volumes(test: &'static str, usual: u64, size: Size) {
         run.expect_met("block", [0, 13], usual);
         run.expect_met("look_up", [0, 14, 15], usual);
         run.expect_met("next_record", [0, 15], usual);
+        expect_each_met(run, &[0], usual);
+        run.expect_met("header", [7], usual);
+        run.expect_met("pointer", [7, 15], usual);
+        run.expect_met("attributes", [6, 7, 9], usual);
+        run.expect_met("attributes", [10, 11], usual / 4);
+        run.expect_met("extent", [6, 7, 9, 13], usual);
+        run.expect_met("extent", [10, 11], usual / 4);
+        run.expect_met("free_run", [15], usual);
     });
 }
 

@@ -47,6 +47,8 @@ fn expect_old(run: &mut Run, subject: &Subject, old: Id, name: [u16; 5]) {
     subject.expect(run, Call::OpenFile(old), Number::Sequence);
     subject.expect(run, Call::Map(old, 1), Number::Sequence);
     subject.expect(run, Call::Block(old, 1), Number::Sequence);
+    subject.expect(run, Call::Extent(old, 1), Number::Sequence);
+    subject.expect(run, Call::Attributes(old), Number::Sequence);
     subject.expect(run, Call::LookUp(old, name), Number::Sequence);
     subject.expect(run, Call::NextRecord(old, 0), Number::Absent);
 }

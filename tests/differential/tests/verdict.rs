@@ -1,6 +1,7 @@
 //! The verdict: Volume V, sound volumes of every shape, each flaw against what the paper says of it,
 //! random flaws, and work areas of every length; and all of it against the model.
 
+use differential::facts::{expect_each_met, Depth};
 use differential::images::Subject;
 use differential::judging::{needed, offences, Areas, Desk, OFFENCE};
 use differential::{Random, Run};
@@ -106,6 +107,17 @@ fn compare_flawed(run: &mut Run, (lender, desk): (&mut Lender, &mut Desk), flawe
     };
     subject.expect_judged(run, &mut random, desk, expected);
     subject.compare_verdict(run, &mut random, desk);
+    subject.compare_facts(run, &mut random, flawed.sound, Depth::SOME);
+}
+
+/// A volume with a flaw mostly opens, and tells what it says: each answer, often enough.
+fn expect_flawed_met(run: &mut Run, least: u64) {
+    expect_each_met(run, &[0], least);
+    run.expect_met("header", [7, 8], least);
+    run.expect_met("pointer", [7, 8, 15], least);
+    run.expect_met("attributes", 6..=12, least);
+    run.expect_met("extent", 6..=13, least);
+    run.expect_met("free_run", [15], least);
 }
 
 /// Every flaw on many volumes.
@@ -121,6 +133,7 @@ fn named_flaws() {
         run.expect_met("judge", [0, 16, 17, 18, 19, 21], 400);
         run.expect_met("judge", [20], 60);
         run.expect_met(OFFENCE, offences(), 10);
+        expect_flawed_met(run, 200);
     });
 }
 
@@ -150,8 +163,10 @@ fn flaws_together() {
                 story: &[("volume", sound.describe()), ("flaws", told.join("; "))],
             };
             subject.compare_verdict(run, random, &mut desk);
+            subject.compare_facts(run, random, sound, Depth::SOME);
         });
         run.expect_met("judge", [17, 18, 19, 21], 50);
+        expect_flawed_met(run, 50);
     });
 }
 
@@ -176,11 +191,13 @@ fn random_flaws_of_volumes() {
                 story: &[("volume", sound.describe()), ("changes", changes)],
             };
             subject.compare_verdict(run, random, &mut desk);
+            subject.compare_facts(run, random, &sound, Depth::SOME);
         });
         run.expect_met("judge", [0, 16, 17, 18, 19, 21], 400);
         run.expect_met("judge", [20], 20);
         run.expect_met(OFFENCE, 31..=36, 20);
         run.expect_met(OFFENCE, 43..=45, 20);
+        expect_flawed_met(run, 20);
     });
 }
 

@@ -1,6 +1,7 @@
 //! Volume V: the cases of paper 01, written out by hand, and every byte of its structure changed.
 
 use differential::asked::{all_of, ids, opening_of, some, some_of};
+use differential::facts::{expect_each_met, Depth};
 use differential::images::{Call, Subject};
 use differential::{Random, Run};
 use library::Lender;
@@ -169,6 +170,7 @@ fn compare_change(run: &mut Run, lender: &mut Lender, change: Change, bits: fn(&
     for id in some(&mut random, &ids(&volume), 3) {
         subject.compare_file(run, &opening_of(id));
     }
+    subject.compare_facts(run, &mut random, &volume, Depth::SOME);
 }
 
 /// Every byte of every block that is read, changed in two ways, with checksums put right and left.
@@ -196,5 +198,11 @@ fn every_byte_changed() {
         run.expect_met("map", [0, 13], 1_000);
         run.expect_met("look_up", [0, 14, 15], 500);
         run.expect_met("next_record", [0, 15], 500);
+        expect_each_met(run, &[0, 2, 4, 5], 500);
+        run.expect_met("header", [7, 8], 500);
+        run.expect_met("pointer", [7, 8, 15], 500);
+        run.expect_met("attributes", [6, 7, 8, 9], 50);
+        run.expect_met("extent", [6, 7, 8, 9, 13], 50);
+        run.expect_met("free_run", [15], 500);
     });
 }

@@ -132,8 +132,8 @@ impl Number {
     }
 }
 
-/// How many words hold a value. No value of paper 01 has more: a directory record has eight words
-/// and the walker's next place follows them.
+/// How many words hold a value. None has more: a volume's label, a header and a file's attributes
+/// take all ten.
 pub const VALUE_WORDS: usize = 10;
 
 /// How many words hold an answer: number, place, value.
@@ -158,6 +158,19 @@ impl Answer {
             number: Number::Done,
             place: 0,
             value,
+        }
+    }
+
+    /// The answer of a call on something that is opened, or refused: that refusal, or what is then
+    /// answered, the value words or a refusal. Paper 01, "The work and its edge": "Every call on a
+    /// volume opens it first".
+    pub fn on<Thing>(
+        opened: &Result<Thing, Number>,
+        words: impl FnOnce(&Thing) -> Result<Vec<u64>, Number>,
+    ) -> Answer {
+        match opened.as_ref().map_err(|number| *number).and_then(words) {
+            Err(number) => Answer::refused(number),
+            Ok(words) => Answer::done(&words),
         }
     }
 

@@ -56,23 +56,22 @@ impl<'a> File<'a> {
         lbn_of(&self.pointers, vbn)
     }
 
+    /// The LBNs of the file in VBN order. Paper 01, "The header": "VBNs run through its pointers in
+    /// order."
+    pub fn lbns_in_order(&self) -> impl Iterator<Item = Lbn> + '_ {
+        self.pointers.iter().flat_map(Pointer::lbns)
+    }
+
     /// The blocks of the file in VBN order. Paper 01, "The header": "VBNs run through its pointers
     /// in order."
     pub fn blocks_in_order(&self) -> impl Iterator<Item = &'a [u8]> + '_ {
-        let lbns = self.pointers.iter().flat_map(Pointer::lbns);
-        lbns.map(|lbn| self.image.block(lbn))
+        self.lbns_in_order().map(|lbn| self.image.block(lbn))
     }
 }
 
-/// The first header of a file and the volume, where 1 to 11 are not given. Paper 01, "Answer
-/// numbers": "6 RELVOL | third ID word not 0", "7 NUMBER | 0, above H.FMAX, no slot, not in use",
-/// "8 HEADER | not whole", "9 SEQUENCE | H.FSEQ differs", "10 SEGMENT | segment not 0", "11 LOCKED
-/// | either flag", and "Order: 1 to 5; .. 6 to 12".
-fn first_header<'a>(volume: &Volume<'a>, id: Id) -> Result<Header<'a>, Number> {
-    if id.volume != 0 {
-        return Err(Number::Relvol);
-    }
-    let n = FileNumber(u64::from(id.number));
+/// The header of a number in use, where it is whole. Paper 01, "Answer numbers": "7 NUMBER | 0, above
+/// H.FMAX, no slot, not in use", "8 HEADER | not whole".
+pub fn whole_header<'a>(volume: &Volume<'a>, n: FileNumber) -> Result<Header<'a>, Number> {
     if n.0 == 0 || n.0 > volume.h_fmax() || !volume.in_use(n) {
         return Err(Number::Number);
     }
@@ -80,6 +79,17 @@ fn first_header<'a>(volume: &Volume<'a>, id: Id) -> Result<Header<'a>, Number> {
     if !header.is_whole(n, volume.image().blocks()) {
         return Err(Number::Header);
     }
+    Ok(header)
+}
+
+/// The first header of a file, where 6 to 11 are not given. Paper 01, "Answer numbers": "6 RELVOL |
+/// third ID word not 0", then 7 and 8, "9 SEQUENCE | H.FSEQ differs", "10 SEGMENT | segment not 0",
+/// "11 LOCKED | either flag", and "Order: 1 to 5; .. 6 to 12".
+fn first_header<'a>(volume: &Volume<'a>, id: Id) -> Result<Header<'a>, Number> {
+    if id.volume != 0 {
+        return Err(Number::Relvol);
+    }
+    let header = whole_header(volume, FileNumber(u64::from(id.number)))?;
     if header.h_fseq() != u64::from(id.sequence) {
         return Err(Number::Sequence);
     }
@@ -102,8 +112,14 @@ pub fn headers<'a>(volume: &Volume<'a>, id: Id) -> Result<Vec<Header<'a>>, Numbe
 /// Opens a file. Paper 01, "The work and its edge": "Every call on a volume opens it first", and
 /// "Answer numbers": "Order: 1 to 5; .. 6 to 12".
 pub fn open(bytes: &[u8], id: Id) -> Opened<'_> {
-    let volume = volume::open(bytes)?;
-    let chain = headers(&volume, id)?;
+    open_in(&volume::open(bytes), id)
+}
+
+/// Opens a file of a volume that is opened, or refused. Paper 01, "Answer numbers": "Order: 1 to 5; ..
+/// 6 to 12".
+pub fn open_in<'a>(volume: &volume::Opened<'a>, id: Id) -> Opened<'a> {
+    let volume = volume.as_ref().map_err(|number| *number)?;
+    let chain = headers(volume, id)?;
     let pointers = chain.iter().flat_map(Header::pointers).collect();
     Ok(File {
         image: volume.image(),

@@ -107,6 +107,16 @@ impl<'a> Header<'a> {
         word(self.block, 6)
     }
 
+    /// Paper 01, "The header": "H.FOWN 8".
+    pub fn h_fown(&self) -> u64 {
+        word(self.block, 8)
+    }
+
+    /// Paper 01, "The header": "H.FPRO 10".
+    pub fn h_fpro(&self) -> u64 {
+        word(self.block, 10)
+    }
+
     /// Paper 01, "The header": "user flags 12".
     pub fn user_flags(&self) -> u8 {
         self.block[12]
@@ -115,6 +125,17 @@ impl<'a> Header<'a> {
     /// Paper 01, "The header": "system flags 13".
     pub fn system_flags(&self) -> u8 {
         self.block[13]
+    }
+
+    /// The attribute area. Paper 01, "The header": "attributes 14 to 45".
+    pub fn attributes(&self) -> &'a [u8] {
+        &self.block[14..46]
+    }
+
+    /// The bytes from the ident area on. Paper 000, 3.4.2: "The ident area of the file header begins
+    /// at the word indicated by H.IDOF."
+    pub fn ident_area(&self) -> &'a [u8] {
+        &self.block[2 * self.h_idof() as usize..]
     }
 
     /// The bytes of the block. Paper 01, "The header": "Bytes: H.IDOF 0, H.MPOF 1, .."

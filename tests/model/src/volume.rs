@@ -131,9 +131,12 @@ fn storage_is_right(volume: &Volume) -> bool {
     u64::from(first_block[3]) == q
 }
 
+/// A volume, or the refusal of opening it.
+pub type Opened<'a> = Result<Volume<'a>, Number>;
+
 /// Opens a volume. Paper 01, "Answer numbers": "1 SIZE, 2 HOME, 3 GEOMETRY, 4 INDEX, 5 STORAGE |
 /// opening, in this order".
-pub fn open(bytes: &[u8]) -> Result<Volume<'_>, Number> {
+pub fn open(bytes: &[u8]) -> Opened<'_> {
     let image = Image::of(bytes).ok_or(Number::Size)?;
     let home = find_home(image).ok_or(Number::Home)?;
     if !geometry_is_right(image, home) {
@@ -147,13 +150,19 @@ pub fn open(bytes: &[u8]) -> Result<Volume<'_>, Number> {
     Ok(volume)
 }
 
+/// The answer of open volume. Paper 01, "Answer numbers": "DONE has place 0 and as value the home LBN
+/// (open volume)".
+pub fn answer_open(volume: &Opened) -> Answer {
+    match volume {
+        Err(number) => Answer::refused(*number),
+        Ok(volume) => Answer::done(&[volume.home.lbn.0]),
+    }
+}
+
 /// The call. Paper 01, "Answer numbers": "DONE has place 0 and as value the home LBN (open
 /// volume)".
 pub fn open_volume(bytes: &[u8]) -> Answer {
-    match open(bytes) {
-        Err(number) => Answer::refused(number),
-        Ok(volume) => Answer::done(&[volume.home.lbn.0]),
-    }
+    answer_open(&open(bytes))
 }
 
 /// What is wrong with a link. Paper 01, "The header": "names a number in use with a slot, whole,
@@ -179,9 +188,31 @@ impl<'a> Volume<'a> {
         self.home.lbn
     }
 
+    /// The bytes of the home block. Paper 01, "The volume": "Home block, bytes: H.IBSZ 0; ..".
+    pub fn home_block(&self) -> &'a [u8] {
+        self.image.block(self.home.lbn)
+    }
+
+    /// Paper 01, "The volume": "H.IBSZ 0".
+    pub fn h_ibsz(&self) -> u64 {
+        self.home.h_ibsz
+    }
+
+    /// Paper 01, "The volume": "H.IBLB 2 (high word first)".
+    pub fn h_iblb(&self) -> u64 {
+        self.home.h_iblb
+    }
+
     /// Paper 01, "The volume": "H.FMAX 6".
     pub fn h_fmax(&self) -> u64 {
         self.home.h_fmax
+    }
+
+    /// How many numbers have a slot. Paper 01, "The volume": "The slot of file n is VBN 2+m+n; past
+    /// the mapped blocks n has no slot."
+    pub fn slots(&self) -> u64 {
+        let m = self.home.h_ibsz;
+        blocks_of(&self.index) - (2 + m)
     }
 
     /// The LBNs of the blocks of bits of the storage map file. Paper 01, "The volume": "Byte 3 of its
@@ -198,6 +229,14 @@ impl<'a> Volume<'a> {
     pub fn storage_map(&self) -> Vec<&'a [u8]> {
         let lbns = self.storage_map_lbns().into_iter();
         lbns.map(|lbn| self.image.block(lbn)).collect()
+    }
+
+    /// Whether each block below N is free. Paper 01, "The volume": "q blocks of bits: set means free;
+    /// bits from N on must be clear, which MAP tests and opening does not."
+    pub fn free_blocks(&self) -> Vec<bool> {
+        let map = self.storage_map();
+        let is_free = |j: u64| bit(map[(j / MAP_BITS) as usize], j % MAP_BITS);
+        (0..self.image.blocks()).map(is_free).collect()
     }
 
     /// The LBN of a number's slot, if it has one. Paper 01, "The volume": "The slot of file n is VBN

@@ -6,7 +6,7 @@
 use crate::answer::{Answer, Number};
 use crate::file::{self, Id};
 use crate::header::{Header, Pointer};
-use crate::image::{bit, put_bit, put_word, sum_of_words, FileNumber, Lbn, BLOCK_BYTES};
+use crate::image::{put_bit, put_word, sum_of_words, FileNumber, Lbn, BLOCK_BYTES};
 use crate::names::{is_proper, Name};
 use crate::verdict;
 use crate::volume::{self, Volume, MAP_BITS};
@@ -156,13 +156,6 @@ fn headers_to_change<'a>(volume: &Volume<'a>, id: Id) -> Result<Vec<Header<'a>>,
     Ok(headers)
 }
 
-/// Whether each block below N is free. Paper 01, "The volume": "q blocks of bits: set means free".
-fn free_blocks(volume: &Volume) -> Vec<bool> {
-    let map = volume.storage_map();
-    let is_free = |j: u64| bit(map[(j / MAP_BITS) as usize], j % MAP_BITS);
-    (0..volume.image().blocks()).map(is_free).collect()
-}
-
 /// Paper 01, "The verdict": "the lowest start of c free blocks in a row".
 fn lowest_start(free: &[bool], count: u64) -> Option<Lbn> {
     let mut runs = free.windows(count as usize);
@@ -200,7 +193,7 @@ fn extension(volume: &Volume, id: Id, count: u64) -> Change {
     if last.m_use() + 2 > last.m_max() {
         return Err(Number::Full);
     }
-    let start = lowest_start(&free_blocks(volume), count).ok_or(Number::Run)?;
+    let start = lowest_start(&volume.free_blocks(), count).ok_or(Number::Run)?;
     let pointer = Pointer {
         lbn: start,
         blocks: count,

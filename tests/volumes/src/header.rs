@@ -1,6 +1,7 @@
 //! Headers: what one says, and how it is put into its slot.
 
-use crate::block::{put_word, seal_header};
+use crate::block::{put_word, put_words, seal_header};
+use crate::facts::Facts;
 use crate::random::Random;
 
 /// Where things are in a header block.
@@ -10,8 +11,11 @@ pub mod at {
     pub const H_FNUM: usize = 2;
     pub const H_FSEQ: usize = 4;
     pub const H_FLEV: usize = 6;
+    pub const H_FOWN: usize = 8;
+    pub const H_FPRO: usize = 10;
     pub const USER_FLAGS: usize = 12;
     pub const SYSTEM_FLAGS: usize = 13;
+    pub const ATTRIBUTES: usize = 14;
 }
 
 /// Where things are in a map area.
@@ -35,6 +39,9 @@ pub const DEACCESS_LOCKED: u8 = 64;
 
 /// The system flag of a file that is marked for delete.
 pub const MARKED_FOR_DELETE: u8 = 128;
+
+/// The system flag of a directory.
+pub const DIRECTORY: u8 = 32;
 
 /// The pointers of the largest map area.
 pub const MOST_POINTERS: usize = 113;
@@ -169,6 +176,8 @@ pub struct Header {
     pub system_flags: u8,
     pub areas: Areas,
     pub pointers: Vec<Pointer>,
+    /// What it says of its file, if it says anything.
+    pub facts: Option<Facts>,
 }
 
 impl Header {
@@ -183,7 +192,13 @@ impl Header {
             system_flags: 0,
             areas: Areas::USUAL,
             pointers,
+            facts: None,
         }
+    }
+
+    /// Whether the ident area's name has a place of its own, before the map area.
+    pub fn has_name(&self) -> bool {
+        self.areas.h_idof + 5 <= self.areas.h_mpof
     }
 
     /// Where the map area starts in the block.
@@ -211,6 +226,12 @@ impl Header {
         put_word(block, at::H_FLEV, 257);
         block[at::USER_FLAGS] = self.user_flags;
         block[at::SYSTEM_FLAGS] = self.system_flags;
+        if let Some(facts) = &self.facts {
+            facts.put(block);
+            if self.has_name() {
+                put_words(block, 2 * usize::from(self.areas.h_idof), &facts.name);
+            }
+        }
         self.put_map(&mut block[self.map_area()..]);
     }
 

@@ -1,8 +1,10 @@
 //! Sound volumes of many blocks: maps of 126, 255 and 16 blocks, a home at the last position with
 //! 4,079 passed over, and a bad block file of 37 headers.
 
+use crate::facts::{End, Facts};
 use crate::header::{pointers_of, Areas, Header, Pointer, MOST_POINTERS};
 use crate::shapes::{home_positions, MOST_BLOCKS};
+use crate::station::LABEL;
 use crate::volume::{File, Plan, Volume};
 
 /// The 255 blocks after each of some home positions, which are `count` in a row from the `first`.
@@ -59,6 +61,22 @@ pub const HIGH_FILE: u16 = 4_095;
 pub const OTHERS: [u16; 2] = [4_096, 4_097];
 const BAD_BLOCKS: u16 = 3_000;
 
+/// What the file whose blocks are high says: it ends in its last block but one.
+pub const HIGH_FACTS: Facts = Facts {
+    owner: 0x0107,
+    protection: 0xe000,
+    record_type: 2,
+    record_attributes: 8,
+    record_size: 80,
+    highest: 0x0102_639c,
+    end: End {
+        block: 25_499,
+        first_free: 257,
+        bytes: 25_498 * 512 + 257,
+    },
+    name: [1, 2, 3, 4, 5],
+};
+
 /// File 3 with the home positions passed over, in as many headers as they need.
 fn bad_block_file(plan: &Plan) -> File {
     let mut positions = home_positions(plan.blocks);
@@ -102,6 +120,7 @@ pub fn large_volume(plan: Plan) -> Volume {
         blocks: 255,
     };
     let last = volume.last_slot().min(volume.plan.h_fmax.into()) as u16;
+    volume.put_label(LABEL);
     for header in [
         Header {
             areas: Areas::LARGEST,
@@ -110,7 +129,10 @@ pub fn large_volume(plan: Plan) -> Volume {
         Header::new(2, 2, storage),
         Header::new(4, 4, vec![high(700)]),
         Header::new(5, 5, vec![]),
-        Header::new(HIGH_FILE, 65_535, (800..900).map(high).collect()),
+        Header {
+            facts: Some(HIGH_FACTS),
+            ..Header::new(HIGH_FILE, 65_535, (800..900).map(high).collect())
+        },
         Header::new(OTHERS[0], 1, vec![]),
         Header::new(OTHERS[1].min(last), 0, vec![high(1_800)]),
     ] {

@@ -2,6 +2,7 @@
 
 use crate::block::{put_word, BLOCK_BYTES};
 use crate::directory::put_directories;
+use crate::facts::put_facts;
 use crate::header::{
     at, cut, pointers_of, Areas, Header, Pointer, DEACCESS_LOCKED, MARKED_FOR_DELETE, MOST_POINTERS,
 };
@@ -347,6 +348,8 @@ pub fn random_volume(random: &mut Random, size: Size) -> Volume {
     leave_old_headers(random, &numbers, &mut volume);
     put_directories(random, &mut volume);
     volume.put_storage_map();
+    // From numbers of their own, so that what a test draws next does not hang on them.
+    put_facts(&mut Random::new(!random.clone().number()), &mut volume);
     volume
 }
 
@@ -479,7 +482,7 @@ impl Maker {
 mod tests {
     use super::*;
     use crate::volume::MAP_BITS;
-    use model::{file, sound, verdict, volume};
+    use model::{attributes, file, sound, verdict, volume};
     use model::{Answer, Number, Vbn};
 
     /// Sees that a volume is accepted, with the counts that were given to it.
@@ -524,7 +527,23 @@ mod tests {
             }
             assert_eq!(opened.lbn(Vbn(0)), None);
             assert_eq!(opened.lbn(Vbn(lbns.len() as u64 + 1)), None);
+            expect_facts(image, built);
         }
+    }
+
+    /// Sees that a file says of itself what was given to it.
+    fn expect_facts(image: &[u8], built: &File) {
+        let Some(facts) = built.headers[0].facts else {
+            return;
+        };
+        let answer = attributes::attributes(image, built.id());
+        let records = u16::from_le_bytes([facts.record_type, facts.record_attributes]);
+        assert_eq!(answer.value[1], facts.end.bytes, "{facts:?}");
+        let rights = [facts.owner, facts.protection].map(u64::from);
+        assert_eq!(answer.value[2..4], rights, "{facts:?}");
+        let words = [records, facts.record_size].map(u64::from);
+        assert_eq!(answer.value[5..7], words, "{facts:?}");
+        assert_eq!(answer.value[7], u64::from(facts.highest), "{facts:?}");
     }
 
     #[test]
@@ -630,6 +649,17 @@ mod tests {
         });
         expect_some(&volumes, "more storage", |it| {
             it.plan.storage_map_blocks() > 1 && it.plan.blocks % MAP_BITS != 0
+        });
+        expect_some(&volumes, "a label", |it| it.label.is_some());
+        expect_some(&volumes, "no label", |it| it.label.is_none());
+        expect_some(&volumes, "a header without facts", |it| {
+            any_header(it, &|header| header.facts.is_none())
+        });
+        expect_some(&volumes, "a name before the map area", |it| {
+            any_header(it, &|header| header.facts.is_some() && header.has_name())
+        });
+        expect_some(&volumes, "a name in the map area", |it| {
+            any_header(it, &|header| header.facts.is_some() && !header.has_name())
         });
     }
 }

@@ -1,6 +1,7 @@
 //! Volumes: an image, and the knowledge of what was put where.
 
 use crate::block::{put_long, put_word, put_words, seal_home, BLOCK_BYTES};
+use crate::facts::Label;
 use crate::header::{Header, Pointer};
 use model::Id;
 
@@ -17,6 +18,11 @@ pub mod in_home {
     pub const H_FMAX: usize = 6;
     pub const H_SBCL: usize = 8;
     pub const H_VLEV: usize = 12;
+    pub const H_VNAM: usize = 14;
+    pub const H_VOWN: usize = 30;
+    pub const H_VPRO: usize = 32;
+    pub const H_VCHA: usize = 34;
+    pub const H_DFPR: usize = 36;
     pub const H_INDF: usize = 496;
 }
 
@@ -162,6 +168,8 @@ pub struct Volume {
     pub files: Vec<File>,
     pub records: Vec<Placed>,
     pub roles: Roles,
+    /// What the home block says of the volume, if it says anything.
+    pub label: Option<Label>,
 }
 
 impl Volume {
@@ -176,6 +184,7 @@ impl Volume {
             files: Vec::new(),
             records: Vec::new(),
             roles: Roles::default(),
+            label: None,
         };
         volume.put_home(volume.plan.home);
         for number in 1..=volume.plan.h_fmax {
@@ -200,7 +209,7 @@ impl Volume {
 
     /// Puts the home block at a position.
     pub fn put_home(&mut self, lbn: u32) {
-        let plan = self.plan.clone();
+        let (plan, label) = (self.plan.clone(), self.label);
         let block = self.block_mut(lbn);
         put_word(block, in_home::H_IBSZ, plan.index_map_blocks() as u16);
         put_long(block, in_home::H_IBLB, plan.h_iblb);
@@ -208,7 +217,16 @@ impl Volume {
         put_word(block, in_home::H_SBCL, 1);
         put_word(block, in_home::H_VLEV, plan.h_vlev);
         block[in_home::H_INDF..in_home::H_INDF + 12].copy_from_slice(FORMAT);
+        if let Some(label) = label {
+            label.put(block);
+        }
         seal_home(block);
+    }
+
+    /// Gives the volume a label, in its home block.
+    pub fn put_label(&mut self, label: Label) {
+        self.label = Some(label);
+        self.put_home(self.plan.home);
     }
 
     /// Whether a number has a slot, and where.
