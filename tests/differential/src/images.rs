@@ -139,6 +139,20 @@ impl Subject<'_> {
         }
     }
 
+    /// Sees that the library answers the cases of a paper, each a case of the run: values, then refusals.
+    pub fn expect_cases(&self, run: &mut Run, done: &[(Call, &[u64])], refused: &[(Call, Number)]) {
+        for &(call, value) in done {
+            if run.next_case() {
+                self.expect_words(run, call, value);
+            }
+        }
+        for &(call, number) in refused {
+            if run.next_case() {
+                self.expect(run, call, number);
+            }
+        }
+    }
+
     /// Reports a call that is answered wrongly.
     fn fail(&self, run: &Run, call: Call, answer: &Words, expected: &Words, by: &'static str) -> ! {
         let mut lines = self.story.to_vec();

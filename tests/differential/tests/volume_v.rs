@@ -68,17 +68,7 @@ fn worked_cases() {
     Run::of(module_path!(), "worked_cases", 37, |run| {
         let mut lender = Lender::new();
         let image = lender.lend(SAMPLE);
-        let subject = Subject { image, story: &[] };
-        for (call, value) in done {
-            if run.next_case() {
-                subject.expect_words(run, call, value);
-            }
-        }
-        for (call, number) in refused {
-            if run.next_case() {
-                subject.expect(run, call, number);
-            }
-        }
+        Subject { image, story: &[] }.expect_cases(run, &done, &refused);
     });
 }
 
