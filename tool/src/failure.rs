@@ -4,13 +4,20 @@ use std::fmt::Display;
 use std::io;
 use std::path::Path;
 
-use ods1::Refused;
+use ods1::{FileId, Refused};
+
+use crate::refusals::Holder;
 
 /// Why a verb does not end well.
 #[derive(Debug)]
 pub enum Failure {
-    /// A call was refused while the verb was doing this.
-    Refused { doing: String, refused: Refused },
+    /// A call was refused while the verb was doing this; and whose the number that was asked for is
+    /// now, where that is why.
+    Refused {
+        doing: String,
+        refused: Refused,
+        now: Option<Holder>,
+    },
     /// A sentence on what is wrong.
     Trouble(String),
     /// Whoever read standard output has gone; there is nobody to tell.
@@ -65,6 +72,20 @@ impl<Value> While<Value> for ods1::Answer<Value> {
         self.map_err(|refused| Failure::Refused {
             doing: doing.to_string(),
             refused,
+            now: None,
         })
     }
+}
+
+/// Opens a file with one of the calls that do, and says whose the number is now where that refuses it.
+pub fn open<Value>(
+    image: &[u8],
+    id: FileId,
+    call: impl FnOnce(&[u8], FileId) -> ods1::Answer<Value>,
+) -> Outcome<Value> {
+    call(image, id).map_err(|refused| Failure::Refused {
+        doing: format!("opening {id}"),
+        refused,
+        now: Holder::after(image, id, refused),
+    })
 }

@@ -8,7 +8,7 @@ use ods1::Refused;
 use serde_json::{json, Map, Value};
 
 use crate::failure::{Failure, Outcome};
-use crate::refusals::explain;
+use crate::refusals::{explain, Holder};
 
 /// What a verb that is done tells: text for a person, or the members of a JSON object.
 #[derive(Debug, Default)]
@@ -24,6 +24,16 @@ impl Report {
             unreachable!("the members of a report are given as an object");
         };
         Report { text, members }
+    }
+
+    /// A report of a verb that makes its text only where that is asked for.
+    pub fn of_text(text: String) -> Report {
+        Report::new(text, json!({}))
+    }
+
+    /// A report of a verb that makes the members of a JSON object only where they are asked for.
+    pub fn of_members(members: Value) -> Report {
+        Report::new(String::new(), members)
     }
 }
 
@@ -59,44 +69,44 @@ impl Form {
 
     /// Tells the outcome, and answers the exit status.
     pub fn tell(&self, outcome: Outcome<Report>) -> ExitCode {
-        let told = match &outcome {
-            Ok(report) => self.tell_report(report),
-            Err(Failure::Refused { doing, refused }) => self.tell_refusal(doing, *refused),
-            Err(Failure::Trouble(sentence)) => self.tell_trouble(sentence),
-            Err(Failure::Unread) => Ok(()),
+        let (told, status) = match outcome {
+            Ok(report) => (self.tell_report(report), 0),
+            Err(Failure::Refused {
+                doing,
+                refused,
+                now,
+            }) => (self.tell_refusal(&doing, refused, now), 1),
+            Err(Failure::Trouble(sentence)) => (self.tell_trouble(&sentence), 2),
+            Err(Failure::Unread) => (Ok(()), 2),
         };
-        match (told, outcome) {
-            (Ok(()), Ok(_)) => ExitCode::SUCCESS,
-            (Ok(()), Err(Failure::Refused { .. })) => ExitCode::from(1),
-            (Err(error), _) => {
-                if let Failure::Trouble(sentence) = Failure::with_output(error) {
-                    complain(&sentence);
-                }
-                ExitCode::from(2)
-            }
-            _ => ExitCode::from(2),
+        let Err(error) = told else {
+            return ExitCode::from(status);
+        };
+        if let Failure::Trouble(sentence) = Failure::with_output(error) {
+            complain(&sentence);
         }
+        ExitCode::from(2)
     }
 
-    fn tell_report(&self, report: &Report) -> io::Result<()> {
+    fn tell_report(&self, report: Report) -> io::Result<()> {
         if !self.json {
             return write(report.text.as_bytes());
         }
         let mut object = self.object();
         object.insert("answer".into(), answer(None));
-        object.extend(report.members.clone());
+        object.extend(report.members);
         write_json(object)
     }
 
-    fn tell_refusal(&self, doing: &str, refused: Refused) -> io::Result<()> {
+    fn tell_refusal(&self, doing: &str, refused: Refused, now: Option<Holder>) -> io::Result<()> {
         let explained = explain(refused);
-        let sentences = format!("{}. {}", explained.meaning, explained.advice);
         if self.json {
             let mut object = self.object();
             object.insert("answer".into(), answer(Some(refused)));
             object.insert("while".into(), doing.into());
             object.insert("meaning".into(), explained.meaning.into());
             object.insert("advice".into(), explained.advice.into());
+            object.extend(now.map(|now| (String::from("now"), now.json())));
             return write_json(object);
         }
         if self.verb == "judge" {
@@ -104,7 +114,8 @@ impl Form {
         } else {
             complain(&format!("{doing}: {refused}"));
         }
-        complain(&sentences);
+        let now = now.map_or_else(String::new, |now| format!(" The number is now {now}."));
+        complain(&format!("{}.{now} {}", explained.meaning, explained.advice));
         Ok(())
     }
 

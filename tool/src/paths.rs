@@ -123,11 +123,10 @@ impl FileName {
 impl Directory {
     /// Reads a directory: `[200,200]`, `[NAME]`, an ID, or the path of a directory file.
     pub fn read_and_find(text: &str, image: &[u8]) -> Outcome<FileId> {
-        if text.starts_with('[') && text.ends_with(']') {
-            let (directory, _) = split(text)?;
-            return directory.find(image);
+        match split(text)? {
+            (directory, "") if !text.is_empty() => directory.find(image),
+            _ => FileName::read(text)?.find(image),
         }
-        FileName::read(text)?.find(image)
     }
 
     /// Finds the ID on an image.

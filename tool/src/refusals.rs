@@ -1,6 +1,43 @@
 //! What each refusal means, and what can be done about it.
 
-use ods1::{Refusal, Refused};
+use std::fmt;
+
+use ods1::{FileId, Name, Refusal, Refused};
+use serde_json::{json, Value};
+
+use crate::paths::name_text;
+
+/// The file that has a number now, by its ID and the name in its header.
+#[derive(Debug)]
+pub struct Holder {
+    id: FileId,
+    name: Name,
+}
+
+impl Holder {
+    /// Whose the number of an ID is now, where SEQUENCE refuses the ID.
+    pub fn after(image: &[u8], id: FileId, refused: Refused) -> Option<Holder> {
+        if refused.refusal != Refusal::Sequence {
+            return None;
+        }
+        let header = ods1::header(image, id.number).ok()?;
+        Some(Holder {
+            id: FileId::of(id.number, header.sequence, 0),
+            name: header.name,
+        })
+    }
+
+    /// The file as JSON.
+    pub fn json(&self) -> Value {
+        json!({"id": self.id.to_string(), "name": name_text(self.name)})
+    }
+}
+
+impl fmt::Display for Holder {
+    fn fmt(&self, f: &mut fmt::Formatter<'_>) -> fmt::Result {
+        write!(f, "{} {}", self.id, name_text(self.name))
+    }
+}
 
 /// What a refusal means, and what to do, each a sentence.
 pub struct Explained {

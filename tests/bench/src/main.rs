@@ -7,14 +7,18 @@
 //! Create, extend and delete judge the volume first: beside each of their lines there is one of the
 //! verdict on the same volume.
 //!
+//! At the end the tool is measured against the calls that it makes ([`tool`]); `bench tool` does that
+//! alone.
+//!
 //! The Rust side is built as the default release profile builds it, without the overflow checks
 //! that the tests have, and the library's calls go through the checking wrappers that the tests
 //! use: where the two sides are not quite alike, it is in favour of Rust.
 
-#![forbid(unsafe_code)]
+#![deny(unsafe_code)]
 
 mod changes;
 mod plain;
+mod tool;
 mod volumes_to_judge;
 
 use plain::Answer;
@@ -459,6 +463,20 @@ fn judge_sizes(title: &str, sizes: &[u32], volume: impl Fn(u32) -> Volume) {
 }
 
 fn main() {
+    let arguments: Vec<String> = std::env::args().skip(1).collect();
+    match arguments.iter().map(String::as_str).collect::<Vec<_>>()[..] {
+        [] => {
+            measure_calls();
+            tool::run();
+        }
+        ["tool"] => tool::run(),
+        ["calls", verb, image] => tool::make_calls(verb, image),
+        _ => panic!("usage: bench [tool]"),
+    }
+}
+
+/// Measures the exported calls against plain Rust.
+fn measure_calls() {
     println!(
         "{:<52} {:>8} {:>6} {:>12} {:>12} {:>8} {:>12} {:>8}",
         "", "calls", "rounds", "library ns", "Rust ns", "ratio", "reading ns", "ratio"

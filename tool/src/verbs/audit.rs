@@ -3,11 +3,11 @@
 use std::collections::{HashSet, VecDeque};
 
 use clap::ArgMatches;
-use ods1::{FileId, Header, Refusal};
+use ods1::{FileId, Name, Refusal};
 use serde_json::{json, Value};
 
-use super::entries::Entry;
-use crate::failure::{Outcome, While};
+use super::entries::{Entry, NAME_WIDTH};
+use crate::failure::{self, Outcome, While};
 use crate::output::Report;
 use crate::paths::{name_text, uic_text};
 use crate::progress::Progress;
@@ -77,121 +77,168 @@ struct Found {
     id: FileId,
 }
 
-/// How a directory is named that a directory lists: a UIC where the master file directory lists it under six
-/// octal digits.
+/// A directory that was walked, with the entries that are shown.
+struct Walked {
+    name: String,
+    id: FileId,
+    shown: Vec<Entry>,
+}
+
+impl Walked {
+    fn put_lines(&self, text: &mut String) {
+        *text += &format!("{} {}\n", self.name, self.id);
+        for entry in &self.shown {
+            entry.put_line(text);
+        }
+    }
+
+    fn json(&self) -> Value {
+        let list: Vec<Value> = self.shown.iter().map(Entry::json).collect();
+        json!({"directory": self.name, "id": self.id.to_string(), "entries": list})
+    }
+}
+
+/// A UIC of the six octal digits that name its directory.
+fn uic_of_digits(digits: &str) -> Option<u16> {
+    let (group, member) = digits.get(..3).zip(digits.get(3..))?;
+    let half = |half: &str| {
+        let byte = u8::from_str_radix(half, 8).ok();
+        byte.filter(|_| half.len() == 3)
+    };
+    Some(u16::from_be_bytes([half(group)?, half(member)?]))
+}
+
+/// How a directory is named that a directory lists, as `ls` takes it: in brackets, a UIC where six octal
+/// digits name it, if it is `NAME.DIR;1` of the master file directory.
 fn directory_name(parent: &Found, entry: &Entry) -> String {
     let text = name_text(entry.name);
-    if parent.id != FileId::MASTER {
-        return format!("{}{text}", parent.name);
+    let listed = text.strip_suffix(".DIR;1");
+    match listed.filter(|_| parent.id == FileId::MASTER) {
+        Some(name) => uic_of_digits(name).map_or_else(|| format!("[{name}]"), uic_text),
+        None => format!("{}{text}", parent.name),
     }
-    let name = text.split('.').next().unwrap_or_default();
-    let half = |digits: &str| {
-        u8::from_str_radix(digits, 8)
-            .ok()
-            .filter(|_| digits.len() == 3)
-    };
-    let halves = name.get(..3).zip(name.get(3..));
-    let uic =
-        halves.and_then(|(group, member)| Some(u16::from_be_bytes([half(group)?, half(member)?])));
-    uic.map_or_else(|| format!("[{name}]"), uic_text)
 }
 
 /// An audit as it goes on.
 struct Audit<'a> {
     image: &'a [u8],
     stale_only: bool,
+    /// The type word of `DIR`.
     type_dir: u16,
+    /// How many file numbers have a slot.
+    numbers: u16,
     counts: Counts,
+    /// The IDs that entries name.
     listed: HashSet<FileId>,
-    walked: HashSet<FileId>,
+    /// The directories that are walked, or are ahead.
+    met: HashSet<FileId>,
     ahead: VecDeque<Found>,
-    text: String,
-    directories: Vec<Value>,
+    walked: Vec<Walked>,
+    /// The files above number 5 that no entry names, with the names in their headers.
+    unlisted: Vec<(FileId, Name)>,
 }
 
-impl Audit<'_> {
+impl<'a> Audit<'a> {
+    /// An audit that begins at the master file directory.
+    fn new(image: &'a [u8], stale_only: bool) -> Outcome<Audit<'a>> {
+        let master = FileId::MASTER;
+        failure::open(image, master, ods1::open_file)?;
+        let geometry = ods1::geometry(image).while_doing("opening the volume")?;
+        let numbers = u16::try_from(geometry.fmax.min(geometry.slots)).unwrap_or(u16::MAX);
+        let directory = ods1::text_to_name("0.DIR;1");
+        let directory = directory.while_doing("reading the type of directories")?;
+        Ok(Audit {
+            image,
+            stale_only,
+            type_dir: directory.0[3],
+            numbers,
+            counts: Counts::default(),
+            listed: HashSet::with_capacity(numbers.into()),
+            met: HashSet::from([master]),
+            ahead: VecDeque::from([Found {
+                name: uic_text(0),
+                id: master,
+            }]),
+            walked: Vec::new(),
+            unlisted: Vec::new(),
+        })
+    }
+
     /// Walks one directory, and keeps the directories that it lists for later.
     fn walk(&mut self, directory: Found, progress: &mut Progress) {
         self.counts.directories += 1;
-        let mut lines = String::new();
-        let mut list = Vec::new();
+        let mut shown = Vec::new();
         for record in ods1::records(self.image, directory.id) {
             let entry = Entry::of(self.image, record);
             progress.step(1);
             self.counts.count(&entry);
             self.listed.insert(entry.id);
-            if entry.is_directory(self.type_dir) && self.walked.insert(entry.id) {
+            if entry.is_directory(self.type_dir) && self.met.insert(entry.id) {
                 let name = directory_name(&directory, &entry);
                 self.ahead.push_back(Found { name, id: entry.id });
             }
             if !self.stale_only || entry.is_stale() {
-                entry.put_line(self.image, &mut lines);
-                list.push(entry.json(self.image));
+                shown.push(entry);
             }
         }
         let Found { name, id } = directory;
-        if !self.stale_only || !list.is_empty() {
-            self.text += &format!("{name} {id}\n{lines}");
+        if !self.stale_only || !shown.is_empty() {
+            self.walked.push(Walked { name, id, shown });
         }
-        self.directories
-            .push(json!({"directory": name, "id": id.to_string(), "entries": list}));
     }
 
-    /// The files above number 5 that no entry names.
-    fn unlisted(&mut self, numbers: u32) -> Vec<(FileId, Header)> {
-        let last = u16::try_from(numbers).unwrap_or(u16::MAX);
-        let headers = (6..=last).filter_map(|number| {
-            let header = ods1::header(self.image, number).ok()?;
-            Some((FileId::of(number, header.sequence, 0), header))
-        });
-        let files = headers.filter(|(id, header)| header.segment == 0 && !self.listed.contains(id));
-        files.collect()
+    /// Finds the files that no entry names.
+    fn find_unlisted(&mut self) {
+        for number in 6..=self.numbers {
+            let Ok(header) = ods1::header(self.image, number) else {
+                continue;
+            };
+            let id = FileId::of(number, header.sequence, 0);
+            if header.segment == 0 && !self.listed.contains(&id) {
+                self.unlisted.push((id, header.name));
+            }
+        }
+        self.counts.unlisted = self.unlisted.len() as u64;
     }
-}
 
-/// Puts the files that no entry names into the text, and answers them as JSON.
-fn put_unlisted(files: &[(FileId, Header)], text: &mut String) -> Value {
-    if !files.is_empty() {
-        *text += "in no directory\n";
+    fn text(&self) -> String {
+        let mut text = String::new();
+        for directory in &self.walked {
+            directory.put_lines(&mut text);
+        }
+        if !self.stale_only && !self.unlisted.is_empty() {
+            text += "in no directory\n";
+            for (id, name) in &self.unlisted {
+                let name = name_text(*name);
+                text += &format!("  {name:<NAME_WIDTH$} {id}\n");
+            }
+        }
+        text + &self.counts.text()
     }
-    let list = files.iter().map(|(id, header)| {
-        let (name, id) = (name_text(header.name), id.to_string());
-        *text += &format!("  {name:<20}{id}\n");
-        json!({"name": name, "id": id})
-    });
-    list.collect()
+
+    fn json(&self) -> Value {
+        let directories: Vec<Value> = self.walked.iter().map(Walked::json).collect();
+        let mut members = json!({"counts": self.counts.json(), "directories": directories});
+        if !self.stale_only {
+            let unlisted = self.unlisted.iter();
+            members["unlisted"] = unlisted
+                .map(|(id, name)| json!({"name": name_text(*name), "id": id.to_string()}))
+                .collect();
+        }
+        members
+    }
 }
 
 pub fn run(arguments: &ArgMatches) -> Outcome<Report> {
     let image = super::image(arguments)?;
-    let master = FileId::MASTER;
-    ods1::open_file(&image, master)
-        .while_doing(format!("opening the master file directory {master}"))?;
-    let geometry = ods1::geometry(&image).while_doing("opening the volume")?;
-    let directory = ods1::text_to_name("0.DIR;1").while_doing("reading the type of directories")?;
-    let mut audit = Audit {
-        image: &image,
-        stale_only: arguments.get_flag("stale"),
-        type_dir: directory.0[3],
-        counts: Counts::default(),
-        listed: HashSet::new(),
-        walked: HashSet::from([master]),
-        ahead: VecDeque::from([Found {
-            name: uic_text(0),
-            id: master,
-        }]),
-        text: String::new(),
-        directories: Vec::new(),
-    };
-    let numbers = geometry.fmax.min(geometry.slots);
-    let mut progress = Progress::new("auditing", u64::from(numbers));
+    let mut audit = Audit::new(&image, arguments.get_flag("stale"))?;
+    let mut progress = Progress::new("auditing", u64::from(audit.numbers));
     while let Some(directory) = audit.ahead.pop_front() {
         audit.walk(directory, &mut progress);
     }
-    let unlisted = audit.unlisted(numbers);
-    audit.counts.unlisted = unlisted.len() as u64;
-    let unlisted = put_unlisted(&unlisted, &mut audit.text);
-    audit.text += &audit.counts.text();
-    let members = json!({"counts": audit.counts.json(), "directories": audit.directories, "unlisted": unlisted});
-    Ok(Report::new(audit.text, members))
+    audit.find_unlisted();
+    if arguments.get_flag("json") {
+        return Ok(Report::of_members(audit.json()));
+    }
+    Ok(Report::of_text(audit.text()))
 }

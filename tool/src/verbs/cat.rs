@@ -5,12 +5,12 @@ use ods1::FileId;
 use serde_json::json;
 
 use super::map::extents;
-use crate::failure::{Failure, Outcome, While};
+use crate::failure::{self, Failure, Outcome};
 use crate::output::{self, Report};
 
 /// The bytes of a file, as parts of the image: to its end of file, or all of its blocks.
 pub fn parts(image: &[u8], id: FileId, all_blocks: bool) -> Outcome<Vec<&[u8]>> {
-    let attributes = ods1::attributes(image, id).while_doing(format!("opening {id}"))?;
+    let attributes = failure::open(image, id, ods1::attributes)?;
     let mapped = u64::from(attributes.blocks) * ods1::BLOCK as u64;
     let mut left = if all_blocks { mapped } else { attributes.end };
     let mut parts = Vec::new();
@@ -30,7 +30,7 @@ pub fn run(arguments: &ArgMatches) -> Outcome<Report> {
     if arguments.get_flag("json") {
         let bytes = parts.concat();
         let members = json!({"id": id.to_string(), "bytes": bytes.len(), "base64": base64(&bytes)});
-        return Ok(Report::new(String::new(), members));
+        return Ok(Report::of_members(members));
     }
     for part in parts {
         output::write(part).map_err(Failure::with_output)?;

@@ -5,27 +5,70 @@ use std::fmt::Write;
 use ods1::{Answer, Attributes, FileId, Name, Record, Refusal};
 use serde_json::{json, Value};
 
-use crate::output::{answer, counted};
+use crate::output::answer;
 use crate::paths::name_text;
+use crate::refusals::Holder;
 
 /// System flag SC.DIR, in the flags' word: "Set if the file is a directory" (000, 3.4.1.8).
 const DIRECTORY_FLAG: u16 = 32 << 8;
+
+/// The widths of the longest proper name, and of the longest ID.
+pub const NAME_WIDTH: usize = "999999999.999;32767".len();
+const ID_WIDTH: usize = "65535,65535,65535".len();
+
+/// Blanks for the widest column.
+const BLANKS: &str = "                   ";
+
+// A listing has thousands of lines. What follows puts one with a third of the instructions that formats
+// take, which is much beside the library's calls.
+
+/// Puts a number.
+fn put_number(text: &mut String, number: u32) {
+    if number >= 10 {
+        put_number(text, number / 10);
+    }
+    text.push(char::from(b'0' + (number % 10) as u8));
+}
+
+/// Puts an ID.
+fn put_id(text: &mut String, id: FileId) {
+    put_number(text, id.number.into());
+    text.push(',');
+    put_number(text, id.sequence.into());
+    text.push(',');
+    put_number(text, id.volume.into());
+}
+
+/// Puts what stands in a column, and blanks up to the next column, at least one.
+fn put_column(text: &mut String, width: usize, put: impl FnOnce(&mut String)) {
+    let start = text.len();
+    put(text);
+    let filled = text.len() - start;
+    text.push_str(&BLANKS[..width.saturating_sub(filled)]);
+    text.push(' ');
+}
 
 /// An entry of a directory, and what opening its ID answers.
 pub struct Entry {
     pub name: Name,
     pub id: FileId,
     pub opened: Answer<Attributes>,
+    /// Whose the number is now, where it is another file's.
+    now: Option<Holder>,
 }
 
 impl Entry {
     /// Opens the ID of a record.
     pub fn of(image: &[u8], record: Record) -> Entry {
         let Record { id, name } = record;
+        let opened = ods1::attributes(image, id);
+        let refused = opened.as_ref().err();
+        let now = refused.and_then(|refused| Holder::after(image, id, *refused));
         Entry {
             name,
             id,
-            opened: ods1::attributes(image, id),
+            opened,
+            now,
         }
     }
 
@@ -44,23 +87,22 @@ impl Entry {
             .is_ok_and(|attributes| is_typed || has_flag(attributes))
     }
 
-    /// Whose the number is now, where opening the ID answers SEQUENCE.
-    fn holder(&self, image: &[u8]) -> Option<(FileId, Name)> {
-        let refused = self.opened.as_ref().err()?;
-        if refused.refusal != Refusal::Sequence {
-            return None;
-        }
-        let header = ods1::header(image, self.id.number).ok()?;
-        Some((FileId::of(self.id.number, header.sequence, 0), header.name))
-    }
-
     /// A line of a listing.
-    pub fn put_line(&self, image: &[u8], text: &mut String) {
-        let mark = if self.is_stale() { '!' } else { ' ' };
-        let (name, id) = (name_text(self.name), self.id.to_string());
-        write!(text, "{mark} {name:<20}{id:<18}").expect("a string can be written to");
+    pub fn put_line(&self, text: &mut String) {
+        text.push_str(if self.is_stale() { "! " } else { "  " });
+        put_column(text, NAME_WIDTH, |text| {
+            text.push_str(&name_text(self.name))
+        });
+        put_column(text, ID_WIDTH, |text| put_id(text, self.id));
         match &self.opened {
-            Ok(attributes) => text.push_str(&counted(attributes.blocks, "block")),
+            Ok(attributes) => {
+                put_number(text, attributes.blocks);
+                text.push_str(if attributes.blocks == 1 {
+                    " block"
+                } else {
+                    " blocks"
+                });
+            }
             Err(refused) => {
                 text.push_str(refused.refusal.name());
                 if self.is_stale() {
@@ -68,15 +110,14 @@ impl Entry {
                 }
             }
         }
-        if let Some((id, name)) = self.holder(image) {
-            let name = name_text(name);
-            write!(text, ", the number is now {id} {name}").expect("a string can be written to");
+        if let Some(now) = &self.now {
+            write!(text, ", the number is now {now}").expect("a string can be written to");
         }
         text.push('\n');
     }
 
     /// The entry as JSON.
-    pub fn json(&self, image: &[u8]) -> Value {
+    pub fn json(&self) -> Value {
         let mut object = json!({
             "name": name_text(self.name),
             "id": self.id.to_string(),
@@ -87,8 +128,8 @@ impl Entry {
             object["blocks"] = attributes.blocks.into();
             object["bytes"] = attributes.end.into();
         }
-        if let Some((id, name)) = self.holder(image) {
-            object["now"] = json!({"id": id.to_string(), "name": name_text(name)});
+        if let Some(now) = &self.now {
+            object["now"] = now.json();
         }
         object
     }

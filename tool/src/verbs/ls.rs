@@ -5,7 +5,7 @@ use ods1::FileId;
 use serde_json::{json, Value};
 
 use super::entries::Entry;
-use crate::failure::{Outcome, While};
+use crate::failure::{self, Outcome};
 use crate::output::{counted, Report};
 use crate::paths::Directory;
 
@@ -15,19 +15,19 @@ pub fn run(arguments: &ArgMatches) -> Outcome<Report> {
         Some(text) => Directory::read_and_find(text, &image)?,
         None => FileId::MASTER,
     };
-    ods1::open_file(&image, directory).while_doing(format!("opening the directory {directory}"))?;
-    let mut text = String::new();
-    let mut entries = Vec::new();
-    for record in ods1::records(&image, directory) {
-        let entry = Entry::of(&image, record);
-        entry.put_line(&image, &mut text);
-        entries.push(entry.json(&image));
+    failure::open(&image, directory, ods1::open_file)?;
+    let records = ods1::records(&image, directory);
+    let entries: Vec<Entry> = records.map(|record| Entry::of(&image, record)).collect();
+    if arguments.get_flag("json") {
+        let list: Vec<Value> = entries.iter().map(Entry::json).collect();
+        let members = json!({"directory": directory.to_string(), "entries": list});
+        return Ok(Report::of_members(members));
     }
-    let count = entries.len() as u64;
-    text += &format!(
-        "{} in the directory {directory}\n",
-        counted(count, "record")
-    );
-    let members = json!({"directory": directory.to_string(), "entries": Value::Array(entries)});
-    Ok(Report::new(text, members))
+    let mut text = String::new();
+    for entry in &entries {
+        entry.put_line(&mut text);
+    }
+    let count = counted(entries.len() as u64, "record");
+    text += &format!("{count} in the directory {directory}\n");
+    Ok(Report::of_text(text))
 }

@@ -4,7 +4,7 @@ use clap::ArgMatches;
 use ods1::{Extent, FileId, WorkAreas};
 use serde_json::{json, Value};
 
-use crate::failure::{Outcome, While};
+use crate::failure::{self, Outcome, While};
 use crate::output::{counted, range, Report};
 
 /// The extents of a file of so many blocks, each with the VBN that it begins at.
@@ -23,7 +23,7 @@ pub fn extents(image: &[u8], id: FileId, blocks: u32) -> Outcome<Vec<(u32, Exten
 pub fn run(arguments: &ArgMatches) -> Outcome<Report> {
     let image = super::image(arguments)?;
     let id = super::file(arguments)?.find(&image)?;
-    let blocks = ods1::open_file(&image, id).while_doing(format!("opening {id}"))?;
+    let blocks = failure::open(&image, id, ods1::open_file)?;
     let extents = extents(&image, id, blocks)?;
     let number = extents.len() as u64;
     let mut text = format!(

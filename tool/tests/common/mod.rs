@@ -7,7 +7,7 @@ use std::process::{Command, Output};
 
 mod scratch;
 
-use scratch::Scratch;
+pub use scratch::Scratch;
 use volumes::shapes::Size;
 use volumes::writable::random_volume_to_write;
 use volumes::Random;
