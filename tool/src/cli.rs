@@ -1,6 +1,8 @@
 //! The command line: the verbs, their arguments, and an example of each. Help, man page and shell
 //! completions are made from this.
 
+use std::path::PathBuf;
+
 use clap::{Arg, ArgAction, ArgGroup, Command};
 
 /// What a verb is for, in a paragraph, and examples of it with a line on each.
@@ -143,7 +145,7 @@ fn positional(name: &'static str, help: &'static str) -> Arg {
 }
 
 fn image() -> Arg {
-    positional("IMAGE", "the disk image")
+    path(positional("IMAGE", "the disk image"))
 }
 
 fn file() -> Arg {
@@ -160,11 +162,18 @@ fn flag(name: &'static str, help: &'static str) -> Arg {
         .help(help)
 }
 
+fn option(name: &'static str, value: &'static str, help: &'static str) -> Arg {
+    Arg::new(name).long(name).value_name(value).help(help)
+}
+
+/// An argument that is a path of the system, of any bytes.
+fn path(argument: Arg) -> Arg {
+    argument.value_parser(clap::value_parser!(PathBuf))
+}
+
 fn svg() -> Arg {
-    Arg::new("svg")
-        .long("svg")
-        .value_name("OUT")
-        .help("draw the volume, block by block, into this file")
+    let help = "draw the volume, block by block, into this file";
+    path(option("svg", "OUT", help))
 }
 
 fn force() -> Arg {
@@ -173,79 +182,63 @@ fn force() -> Arg {
 
 /// The arguments of a verb that changes the image: where the changed image goes.
 fn changing(verb: Command) -> Command {
-    verb.arg(
-        Arg::new("output")
-            .short('o')
-            .long("output")
-            .value_name("NEW")
-            .help("write the changed image to this file"),
-    )
-    .arg(flag(
-        "in-place",
-        "change the image itself: the changed image takes its name in one step",
-    ))
-    .arg(force())
-    .group(
-        ArgGroup::new("where")
-            .args(["output", "in-place"])
-            .required(true),
-    )
+    let output = option("output", "NEW", "write the changed image to this file");
+    verb.arg(path(output.short('o')))
+        .arg(flag(
+            "in-place",
+            "change the image itself: the changed image takes its name in one step",
+        ))
+        .arg(force())
+        .group(
+            ArgGroup::new("where")
+                .args(["output", "in-place"])
+                .required(true),
+        )
+}
+
+fn blocks() -> Arg {
+    flag("blocks", "all mapped blocks, whatever the end of file")
+}
+
+fn count() -> Arg {
+    positional("COUNT", "how many blocks").value_parser(clap::value_parser!(u32))
+}
+
+/// The arguments of `create`, beside those of every verb that changes the image.
+fn creating(verb: Command) -> Command {
+    let owner = "the owner, as [200,200] in octal; else the volume's owner";
+    let protection = "the protection word in octal; else the volume's default";
+    verb.arg(positional("NAME", "the name in the header, as READS.DAT;1"))
+        .arg(option("owner", "UIC", owner))
+        .arg(option("protection", "WORD", protection))
 }
 
 /// The arguments of each verb.
 fn with_arguments(verb: Command, name: &str) -> Command {
+    let directory = "the directory, as [200,200]; else the master file directory";
     match name {
         "judge" => verb.arg(image()),
+        "audit" => verb
+            .arg(image())
+            .arg(flag("stale", "show the stale entries alone")),
+        "ls" => verb
+            .arg(image())
+            .arg(positional("DIRECTORY", directory).required(false)),
+        "map" => verb.arg(image()).arg(file()).arg(svg()).arg(force()),
+        "cat" => verb.arg(image()).arg(file()).arg(blocks()),
+        "extract" => verb
+            .arg(image())
+            .arg(file())
+            .arg(path(positional("OUT", "the file to write")))
+            .arg(blocks())
+            .arg(force()),
         "info" => verb
             .arg(image())
             .arg(svg())
             .arg(force())
             .arg(flag("all", "show every free run")),
-        "audit" => verb
-            .arg(image())
-            .arg(flag("stale", "show the stale entries alone")),
-        "ls" => verb.arg(image()).arg(
-            positional(
-                "DIRECTORY",
-                "the directory, as [200,200]; else the master file directory",
-            )
-            .required(false),
-        ),
-        "map" => verb.arg(image()).arg(file()).arg(svg()).arg(force()),
-        "cat" => verb.arg(image()).arg(file()).arg(flag(
-            "blocks",
-            "all mapped blocks, whatever the end of file",
-        )),
-        "extract" => verb
-            .arg(image())
-            .arg(file())
-            .arg(positional("OUT", "the file to write"))
-            .arg(flag(
-                "blocks",
-                "all mapped blocks, whatever the end of file",
-            ))
-            .arg(force()),
-        "create" => changing(
-            verb.arg(image())
-                .arg(positional("NAME", "the name in the header, as READS.DAT;1")),
-        )
-        .arg(
-            Arg::new("owner")
-                .long("owner")
-                .value_name("UIC")
-                .help("the owner, as [200,200] in octal; else the volume's owner"),
-        )
-        .arg(
-            Arg::new("protection")
-                .long("protection")
-                .value_name("WORD")
-                .help("the protection word in octal; else the volume's default"),
-        ),
-        "extend" => changing(
-            verb.arg(image())
-                .arg(file())
-                .arg(positional("COUNT", "how many blocks").value_parser(clap::value_parser!(u32))),
-        ),
+        "create" => changing(creating(verb.arg(image()))),
+        "extend" => changing(verb.arg(image()).arg(file()).arg(count())),
         "delete" => changing(verb.arg(image()).arg(file())),
         "completions" => verb.arg(
             positional("SHELL", "the shell")

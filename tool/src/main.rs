@@ -48,7 +48,10 @@ fn run(verb: &str, arguments: &ArgMatches) -> Outcome<Report> {
 
 fn main() -> ExitCode {
     image::guard();
-    let matches = cli::command().get_matches();
+    let matches = match cli::command().try_get_matches() {
+        Ok(matches) => matches,
+        Err(error) => return output::tell_usage(&error),
+    };
     let (verb, arguments) = matches.subcommand().expect("a verb is required");
     let form = output::Form::of(verb, arguments);
     let outcome = run(verb, arguments);

@@ -1,6 +1,7 @@
 //! What a verb tells, as text or as JSON, and the exit status that goes with it.
 
 use std::io::{self, Write};
+use std::path::PathBuf;
 use std::process::ExitCode;
 
 use clap::ArgMatches;
@@ -59,10 +60,10 @@ pub struct Form {
 impl Form {
     /// How the command line asks for it.
     pub fn of(verb: &str, arguments: &ArgMatches) -> Form {
-        let image = arguments.try_get_one::<String>("IMAGE").ok().flatten();
+        let image = arguments.try_get_one::<PathBuf>("IMAGE").ok().flatten();
         Form {
             verb: verb.into(),
-            image: image.cloned(),
+            image: image.map(|image| image.display().to_string()),
             json: arguments.get_flag("json"),
         }
     }
@@ -138,6 +139,24 @@ impl Form {
         }
         object
     }
+}
+
+/// Tells what is wrong with a command line, or the help that it asks for, and answers the exit status.
+pub fn tell_usage(error: &clap::Error) -> ExitCode {
+    if !error.use_stderr() {
+        return match write(error.to_string().as_bytes()) {
+            Ok(()) => ExitCode::SUCCESS,
+            Err(_) => ExitCode::from(2),
+        };
+    }
+    // Where it cannot be written there is nobody to tell.
+    let _ = error.print();
+    if std::env::args_os().any(|argument| argument == "--json") {
+        let sentence = error.to_string();
+        let object = Map::from_iter([(String::from("error"), sentence.trim().into())]);
+        let _ = write_json(object);
+    }
+    ExitCode::from(2)
 }
 
 /// Writes to standard output.

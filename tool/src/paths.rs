@@ -173,14 +173,17 @@ fn highest(image: &[u8], directory: FileId, name: Name) -> Name {
     proper.max_by_key(|found| found.version()).unwrap_or(name)
 }
 
-/// A name as text; its words where it is not proper.
+/// A name as text; where it is not proper, that there is none, or its words.
 pub fn name_text(name: Name) -> String {
     match ods1::name_to_text(name) {
         Ok(text) => text,
         Err(refused) => {
             debug_assert_eq!(refused.refusal, Refusal::Name);
             let [name1, name2, name3, typ, version] = name.0;
-            format!("?{name1}.{name2}.{name3}.{typ}.{version}?")
+            match name.0 {
+                [0, 0, 0, 0, 0] => String::from("(no name)"),
+                _ => format!("?{name1}.{name2}.{name3}.{typ}.{version}?"),
+            }
         }
     }
 }

@@ -235,15 +235,15 @@ mod tests {
         ("#fff", "M80 40h120v40h-120z", "free, LBN 22-24"),
         ("#fff", "M240 40h160v40h-160z", "free, LBN 26-29"),
         ("#fff", "M480 40H800V160H760v40H0V80H480z", "free, LBN 32-98"),
-        ("#8a8a8a", "M0 0h40v40h-40z", "boot block, 1,1,0 ?0.0.0.0.0?, VBN 1, LBN 0"),
-        ("#000", "M40 0h40v40h-40z", "home block, 1,1,0 ?0.0.0.0.0?, VBN 2, LBN 1"),
-        ("#332288", "M80 0h40v40h-40z", "index map, 1,1,0 ?0.0.0.0.0?, VBN 3, LBN 2"),
-        ("#7d6fc0", "M120 0h640v40h-640z", "file headers, 1,1,0 ?0.0.0.0.0?, VBN 4-19, LBN 3-18"),
-        ("#117733", "M760 0h40v40h-40zM0 40h40v40h-40z", "storage map file, 2,2,0 ?0.0.0.0.0?, VBN 1-2, LBN 19-20"),
-        ("#5c4033", "M760 160h40v40h-40z", "bad block file, 3,3,0 ?0.0.0.0.0?, VBN 1, LBN 99"),
-        ("#006d7a", "M40 40h40v40h-40z", "master file directory, 4,4,0 ?0.0.0.0.0?, VBN 1, LBN 21"),
-        ("#77aadd", "M200 40h40v40h-40z", "6,9,0 ?0.0.0.0.0?, VBN 3, LBN 25"),
-        ("#77aadd", "M400 40h80v40h-80z", "6,9,0 ?0.0.0.0.0?, VBN 1-2, LBN 30-31"),
+        ("#8a8a8a", "M0 0h40v40h-40z", "boot block, 1,1,0 (no name), VBN 1, LBN 0"),
+        ("#000", "M40 0h40v40h-40z", "home block, 1,1,0 (no name), VBN 2, LBN 1"),
+        ("#332288", "M80 0h40v40h-40z", "index map, 1,1,0 (no name), VBN 3, LBN 2"),
+        ("#7d6fc0", "M120 0h640v40h-640z", "file headers, 1,1,0 (no name), VBN 4-19, LBN 3-18"),
+        ("#117733", "M760 0h40v40h-40zM0 40h40v40h-40z", "storage map file, 2,2,0 (no name), VBN 1-2, LBN 19-20"),
+        ("#5c4033", "M760 160h40v40h-40z", "bad block file, 3,3,0 (no name), VBN 1, LBN 99"),
+        ("#006d7a", "M40 40h40v40h-40z", "master file directory, 4,4,0 (no name), VBN 1, LBN 21"),
+        ("#77aadd", "M200 40h40v40h-40z", "6,9,0 (no name), VBN 3, LBN 25"),
+        ("#77aadd", "M400 40h80v40h-80z", "6,9,0 (no name), VBN 1-2, LBN 30-31"),
     ];
 
     const LEGEND_OF_V: [&str; 12] = [
@@ -316,9 +316,9 @@ mod tests {
             lost_too,
             ("url(#lost)", "M0 120h40v40h-40z", "lost, LBN 60")
         );
-        let title = "6,9,0 ?0.0.0.0.0?, VBN 3, LBN 25, yet free";
+        let title = "6,9,0 (no name), VBN 3, LBN 25, yet free";
         assert_eq!(yet_free, ("url(#yet-free)", "M200 40h40v40h-40z", title));
-        let title = "LBN 31, covered 2 times: by 4,4,0 ?0.0.0.0.0? and by 6,9,0 ?0.0.0.0.0?";
+        let title = "LBN 31, covered 2 times: by 4,4,0 (no name) and by 6,9,0 (no name)";
         assert_eq!(twice, ("#d00000", "M440 40h40v40h-40z", title));
         let legend = legend_lines(&svg);
         assert_eq!(

@@ -3,8 +3,10 @@
 
 mod common;
 
+use std::ffi::OsStr;
 use std::fs::{self, OpenOptions};
 use std::io::{self, Read};
+use std::os::unix::ffi::OsStrExt;
 use std::os::unix::fs::{symlink, PermissionsExt};
 use std::path::{Path, PathBuf};
 use std::process::{Command, Stdio};
@@ -235,6 +237,20 @@ impl Drop for Small {
             .stderr(Stdio::null())
             .status();
     }
+}
+
+#[test]
+fn a_path_that_is_not_text_is_a_path() {
+    let scratch = folder_with("bytes", VOLUME_V);
+    let [image, changed] = [&b"v\xff.dsk"[..], b"\xfe.dsk"].map(OsStr::from_bytes);
+    fs::rename(scratch.path("v.dsk"), scratch.folder().join(image)).expect("it can be renamed");
+    let mut create = tool(scratch.folder(), "create -o");
+    let ended = create.arg(changed).arg(image).arg("B.DAT;1").output();
+    Ended::from(ended.expect("the tool can be run")).expect_done();
+    let mut judge = tool(scratch.folder(), "judge");
+    let ended = judge.arg(changed).output();
+    let told = Ended::from(ended.expect("the tool can be run")).expect_done();
+    assert!(told.starts_with("answer 0 DONE place 0\n"), "{told}");
 }
 
 #[test]

@@ -17,6 +17,7 @@
 #![deny(unsafe_code)]
 
 mod changes;
+mod facts;
 mod plain;
 mod tool;
 mod volumes_to_judge;
@@ -493,6 +494,7 @@ fn measure_calls() {
     open_volume("open volume, 1,044,480 blocks", image);
     walk_directory("walk a directory of 64 blocks by next_record", image);
     drop(largest);
+    facts::measure_all(&rl02.image);
 
     let volume = volumes_to_judge::rl02_of_files();
     judge("verdict, RL02, 2,000 files", &volume, 2_005);

@@ -2,6 +2,7 @@
 //! and without proofs. Each call opens the volume anew, as theirs do; those that change an image,
 //! which are in [`writing`], judge it first.
 
+pub mod facts;
 pub mod writing;
 
 /// An answer as the exported calls write it: number, place, ten value words.
@@ -259,8 +260,8 @@ impl<'a> Volume<'a> {
         Some(block(self.image, lbn))
     }
 
-    /// Opens a file, and hands the pointers of each of its headers over in order.
-    fn each_header(&self, id: [u16; 3], mut each: impl FnMut(Pointers<'a>)) -> Result<(), Refusal> {
+    /// Opens a file, and hands each of its headers over in order.
+    fn each_header(&self, id: [u16; 3], mut each: impl FnMut(Header<'a>)) -> Result<(), Refusal> {
         let [number, sequence, third] = id;
         if third != 0 {
             return Err(RELVOL);
@@ -277,7 +278,7 @@ impl<'a> Volume<'a> {
             return Err(LOCKED);
         }
         loop {
-            each(header.pointers());
+            each(header);
             let (number, sequence) = header.link();
             if number == 0 {
                 return Ok(());
@@ -323,7 +324,7 @@ pub fn open_file(image: &[u8], id: [u16; 3], answer: &mut Answer) {
 fn count_blocks(image: &[u8], id: [u16; 3]) -> Result<u32, Refusal> {
     let volume = Volume::open(image)?;
     let mut blocks = 0;
-    volume.each_header(id, |pointers| blocks += pointers.blocks())?;
+    volume.each_header(id, |header| blocks += header.pointers().blocks())?;
     Ok(blocks)
 }
 
@@ -341,9 +342,9 @@ fn lbn_of(image: &[u8], id: [u16; 3], vbn: u32) -> Result<u32, Refusal> {
     let mut found = None;
     // VBN 0 becomes the last number of all, which is past every file.
     let mut ahead = vbn.wrapping_sub(1);
-    volume.each_header(id, |pointers| {
+    volume.each_header(id, |header| {
         if found.is_none() {
-            match pointers.lbn(ahead) {
+            match header.pointers().lbn(ahead) {
                 Ok(lbn) => found = Some(lbn),
                 Err(past) => ahead = past,
             }
@@ -378,10 +379,10 @@ fn find_name(image: &[u8], id: [u16; 3], name: [u16; 5]) -> Result<[u16; 3], Ref
         two.copy_from_slice(&word.to_le_bytes());
     }
     let mut found = None;
-    volume.each_header(id, |pointers| {
+    volume.each_header(id, |header| {
         if found.is_none() {
             let equal = |record: &&[u8]| record[6..] == bytes && word(record, 0) != 0;
-            found = records(image, pointers).find(equal);
+            found = records(image, header.pointers()).find(equal);
         }
     })?;
     if !is_proper(name) {
@@ -439,8 +440,8 @@ fn find_record(image: &[u8], id: [u16; 3], place: u32) -> Option<(&[u8], u32)> {
     let mut found = None;
     // The place of the first record of the next pointer.
     let mut start = 0;
-    let each = |pointers: Pointers| {
-        for (lbn, blocks) in pointers.iter() {
+    let each = |header: Header| {
+        for (lbn, blocks) in header.pointers().iter() {
             let end = start + 32 * blocks;
             if found.is_none() && place < end {
                 let first = place.max(start);
@@ -675,9 +676,9 @@ mod tests {
     use volumes::{Random, Volume};
 
     /// How often each number was answered.
-    type Met = [u64; 29];
+    pub(super) type Met = [u64; 29];
 
-    fn answer_of(met: &mut Met, call: impl FnOnce(&mut Answer)) -> Answer {
+    pub(super) fn answer_of(met: &mut Met, call: impl FnOnce(&mut Answer)) -> Answer {
         let mut answer = [u64::MAX; 12];
         call(&mut answer);
         met[answer[0] as usize] += 1;
@@ -745,7 +746,7 @@ mod tests {
     }
 
     /// Sees that every answer of some calls was met.
-    fn expect_met(met: &Met, numbers: std::ops::RangeInclusive<u64>) {
+    pub(super) fn expect_met(met: &Met, numbers: std::ops::RangeInclusive<u64>) {
         for number in Number::all().filter(|number| numbers.contains(&number.number())) {
             let times = met[number.number() as usize];
             assert!(times > 20, "{} {times} times", number.name());

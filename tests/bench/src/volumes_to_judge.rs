@@ -1,4 +1,5 @@
-//! Sound volumes with many headers in use, for the verdict and for the calls that judge first.
+//! Sound volumes with many headers in use, for the verdict, for the calls that judge first and for free
+//! runs.
 //!
 //! An index file of one header maps at most 113 pointers of 256 blocks, 28,928 blocks. Of these two
 //! are the boot block and the home and 16 are the index map of H.FMAX 65,535, so that 28,910 numbers
@@ -170,6 +171,17 @@ pub fn largest_with_room() -> Volume {
         ..LARGEST_FILES
     };
     full_volume(plan(MOST_BLOCKS, 1, 65_535, 2, 28_910), files)
+}
+
+/// The largest volume, with 500 files of 100 pointers of one block each; after each pointer a block
+/// is free, and after the last all that are left.
+pub fn largest_in_pieces() -> Volume {
+    let files = Files {
+        pointers: 100,
+        blocks: 1,
+        ..SMALL_FILES
+    };
+    full_volume(plan(MOST_BLOCKS, 1, 505, 2, 505), files)
 }
 
 /// A volume of N blocks with 4,096 headers.

@@ -210,7 +210,7 @@ mod tests {
         chart.is_detailed = false;
         let svg = chart.blocks();
         let both = "M200 40h40v40h-40zM400 40h80v40h-80z";
-        let title = "6,9,0 ?0.0.0.0.0?: 3 blocks in 2 runs";
+        let title = "6,9,0 (no name): 3 blocks in 2 runs";
         assert!(svg.contains(&shape(both, title)), "{svg}");
         assert!(svg.contains("<title>free: 74 blocks in 3 runs</title>"));
         assert!(!svg.contains("VBN"));

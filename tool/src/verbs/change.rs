@@ -32,7 +32,7 @@ impl<'a> Change<'a> {
     fn open(arguments: &'a ArgMatches) -> Outcome<Change<'a>> {
         let image = super::image_path(arguments);
         let force = arguments.get_flag("force");
-        let (output, copy) = match super::optional(arguments, "output").map(Path::new) {
+        let (output, copy) = match super::optional_path(arguments, "output") {
             Some(path) => {
                 let file = image::open_file(image)?;
                 (Output::New { path, force }, Copy::of(image, &file)?)

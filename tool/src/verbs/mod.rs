@@ -14,7 +14,7 @@ pub mod map;
 mod entries;
 mod svg;
 
-use std::path::Path;
+use std::path::{Path, PathBuf};
 
 use clap::ArgMatches;
 
@@ -34,9 +34,19 @@ fn optional<'a>(arguments: &'a ArgMatches, name: &str) -> Option<&'a str> {
     arguments.get_one::<String>(name).map(String::as_str)
 }
 
+/// A path that may be left out.
+fn optional_path<'a>(arguments: &'a ArgMatches, name: &str) -> Option<&'a Path> {
+    arguments.get_one::<PathBuf>(name).map(PathBuf::as_path)
+}
+
+/// A path that the command line requires.
+fn required_path<'a>(arguments: &'a ArgMatches, name: &str) -> &'a Path {
+    optional_path(arguments, name).expect("the argument is required")
+}
+
 /// The path of the image.
 fn image_path(arguments: &ArgMatches) -> &Path {
-    Path::new(required(arguments, "IMAGE"))
+    required_path(arguments, "IMAGE")
 }
 
 /// The image, to be read.

@@ -1,7 +1,5 @@
 //! `--svg OUT`: a picture of the volume beside what a verb tells.
 
-use std::path::Path;
-
 use clap::ArgMatches;
 use ods1::{Answer, Counts, FileId};
 
@@ -18,13 +16,14 @@ pub fn draw(
     chosen: Option<FileId>,
     report: &mut Report,
 ) -> Outcome<()> {
-    let Some(out) = super::optional(arguments, "svg") else {
+    let Some(out) = super::optional_path(arguments, "svg") else {
         return Ok(());
     };
     let svg = picture::draw(image, &verdict(), chosen)?;
     let parts = std::iter::once(svg.as_bytes());
     let force = arguments.get_flag("force");
-    save::write_new(Path::new(out), parts, force, super::image_path(arguments))?;
+    save::write_new(out, parts, force, super::image_path(arguments))?;
+    let out = out.display().to_string();
     report.text += &format!("picture in {out}\n");
     report.members.insert("svg".into(), out.into());
     Ok(())

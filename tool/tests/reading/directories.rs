@@ -100,7 +100,7 @@ const AUDIT: &str = "[0,0] 4,4,0
   FLAGGED.DAT;3       9,3,0             1 block
   LOCKED.DIR;1        10,4,0            LOCKED
 ! GONE.DIR;1          16,1,0            NUMBER: stale
-! OLD.DIR;1           7,65535,0         SEQUENCE: stale, the number is now 7,1,0 ?0.0.0.0.0?
+! OLD.DIR;1           7,65535,0         SEQUENCE: stale, the number is now 7,1,0 (no name)
   OTHER.DIR;1         7,1,1             RELVOL
   EIGHTS.DIR;2        11,5,0            1 block
 [1,2] 7,1,0
@@ -114,7 +114,7 @@ const AUDIT: &str = "[0,0] 4,4,0
 [1,2]SUB.DIR;1 12,6,0
   SUB.DIR;1           12,6,0            1 block
 in no directory
-  ?0.0.0.0.0?         13,7,0
+  (no name)           13,7,0
 directories 6
 entries 15
 opened 11
@@ -141,7 +141,7 @@ fn an_audit_walks_each_directory_once() {
     assert_eq!(object["counts"], counts);
     assert_eq!(
         object["unlisted"],
-        json!([{"name": "?0.0.0.0.0?", "id": "13,7,0"}])
+        json!([{"name": "(no name)", "id": "13,7,0"}])
     );
     let directories = object["directories"].as_array().expect("a list");
     let named = directories.iter().map(|it| it["directory"].clone());

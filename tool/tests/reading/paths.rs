@@ -2,6 +2,7 @@
 
 use std::path::Path;
 
+use serde_json::{json, Value};
 use volumes::directory::name_words;
 use volumes::header::{Header, Pointer, DIRECTORY};
 use volumes::volume::{File, Record};
@@ -227,10 +228,12 @@ fn a_command_line_that_is_none() {
         "audit --all v.dsk",
         "ls v.dsk [0,0] [0,0]",
     ] {
-        for json in ["", "--json "] {
-            let ended = run(scratch.folder(), &format!("{json}{line}"));
-            assert_eq!((ended.status, &*ended.out), (Some(2), ""), "{line}");
-            assert!(ended.err.contains("Usage: ods1"), "{line}: {}", ended.err);
-        }
+        let ended = run(scratch.folder(), line);
+        assert_eq!((ended.status, &*ended.out), (Some(2), ""), "{line}");
+        assert!(ended.err.contains("Usage: ods1"), "{line}: {}", ended.err);
+        let ended = run(scratch.folder(), &format!("--json {line}"));
+        let object: Value = serde_json::from_str(&ended.out).expect("it is JSON");
+        assert_eq!(object, json!({"error": ended.err.trim()}), "{line}");
+        assert_eq!(ended.status, Some(2), "{line}");
     }
 }
