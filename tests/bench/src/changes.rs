@@ -4,6 +4,7 @@
 
 use crate::plain::{writing, Answer};
 use crate::{answer_of, mix, Case};
+use ods1::words;
 use std::cell::RefCell;
 use std::hint::black_box;
 use volumes::volume_v::READS;
@@ -42,9 +43,13 @@ fn by_library(desk: &mut Desk, call: Call) -> Answer {
     } = desk;
     let image = black_box(&mut image[..]);
     match call {
-        Call::Create => library::create(image, READS, WORDS, blocks, headers),
-        Call::Extend(id, count) => library::extend(image, id, count, blocks, headers),
-        Call::Delete(id) => library::delete(image, id, blocks, headers),
+        Call::Create => {
+            answer_of(|answer| words::create(image, READS, WORDS, blocks, headers, answer))
+        }
+        Call::Extend(id, count) => {
+            answer_of(|answer| words::extend(image, id, count, blocks, headers, answer))
+        }
+        Call::Delete(id) => answer_of(|answer| words::delete(image, id, blocks, headers, answer)),
     }
 }
 

@@ -2,6 +2,7 @@
 
 use crate::plain::{facts, Answer};
 use crate::{answer_of, mix, volumes_to_judge, Case, READINGS};
+use ods1::words;
 use std::hint::black_box;
 use volumes::station::{station, Station};
 
@@ -60,13 +61,13 @@ fn measure_volume(image: &[u8]) {
     measure(
         "geometry, RL02",
         &CALLS,
-        |()| library::geometry(black_box(image)),
+        |()| answer_of(|answer| words::geometry(black_box(image), answer)),
         |()| answer_of(|answer| facts::geometry(black_box(image), answer)),
     );
     measure(
         "label, RL02",
         &CALLS,
-        |()| library::label(black_box(image)),
+        |()| answer_of(|answer| words::label(black_box(image), answer)),
         |()| answer_of(|answer| facts::label(black_box(image), answer)),
     );
 }
@@ -79,7 +80,7 @@ fn measure_headers(station: &Station) {
     measure(
         "header of each number, station's RL02",
         &numbers,
-        |number| library::header(black_box(image), number),
+        |number| answer_of(|answer| words::header(black_box(image), number, answer)),
         |number| answer_of(|answer| facts::header(black_box(image), number, answer)),
     );
     let headers = station.volume.headers();
@@ -88,7 +89,9 @@ fn measure_headers(station: &Station) {
     measure(
         "last pointer of each header, station's RL02",
         &last,
-        |(number, place)| library::pointer(black_box(image), number, place),
+        |(number, place)| {
+            answer_of(|answer| words::pointer(black_box(image), number, place, answer))
+        },
         |(number, place)| {
             answer_of(|answer| facts::pointer(black_box(image), number, place, answer))
         },
@@ -100,14 +103,15 @@ fn measure_attributes(name: &str, image: &[u8], ids: &[[u16; 3]]) {
     measure(
         name,
         ids,
-        |id| library::attributes(black_box(image), id),
+        |id| answer_of(|answer| words::attributes(black_box(image), id, answer)),
         |id| answer_of(|answer| facts::attributes(black_box(image), id, answer)),
     );
 }
 
 /// The extents of files, from the first of each to the refusal past its last.
 fn measure_extents(name: &str, image: &[u8], ids: &[[u16; 3]]) {
-    let by_library = |(id, vbn)| library::extent(black_box(image), id, vbn);
+    let by_library =
+        |(id, vbn)| answer_of(|answer| words::extent(black_box(image), id, vbn, answer));
     let by_plain = |(id, vbn)| answer_of(|answer| facts::extent(black_box(image), id, vbn, answer));
     let after = |vbn: u32, answer: &Answer| u64::from(vbn) + answer[3];
     let vbns = |&id: &[u16; 3]| {
@@ -129,7 +133,7 @@ fn measure_free_runs(name: &str, image: &[u8], starts: &[u32]) {
     measure(
         name,
         starts,
-        |from| library::free_run(black_box(image), from),
+        |from| answer_of(|answer| words::free_run(black_box(image), from, answer)),
         |from| answer_of(|answer| facts::free_run(black_box(image), from, answer)),
     );
 }

@@ -10,9 +10,8 @@
 //! At the end the tool is measured against the calls that it makes ([`tool`]); `bench tool` does that
 //! alone.
 //!
-//! The Rust side is built as the default release profile builds it, without the overflow checks
-//! that the tests have, and the library's calls go through the checking wrappers that the tests
-//! use: where the two sides are not quite alike, it is in favour of Rust.
+//! The Rust side is built without the overflow checks that the tests have, and in one unit, so that the
+//! compiler sees all of it at once, as it does of the library.
 
 #![deny(unsafe_code)]
 
@@ -22,6 +21,7 @@ mod plain;
 mod tool;
 mod volumes_to_judge;
 
+use ods1::words;
 use plain::Answer;
 use std::cell::RefCell;
 use std::hint::black_box;
@@ -145,7 +145,7 @@ fn mix(sum: u64, answer: &Answer) -> u64 {
         .fold(sum, |sum, &word| sum.rotate_left(7).wrapping_add(word))
 }
 
-/// The answer of a plain call.
+/// The answer of a call, on either side.
 fn answer_of(call: impl FnOnce(&mut Answer)) -> Answer {
     let mut answer = [0; 12];
     call(black_box(&mut answer));
@@ -262,9 +262,15 @@ fn largest() -> Volume {
 /// Opening a file once, and then mapping each of its VBNs.
 fn map_every_vbn(name: &str, image: &[u8], blocks: u32) {
     let library = || {
-        let start = mix(0, &library::open_file(black_box(image), READINGS));
+        let start = mix(
+            0,
+            &answer_of(|answer| words::open_file(black_box(image), READINGS, answer)),
+        );
         (1..=blocks).fold(start, |sum, vbn| {
-            mix(sum, &library::map(black_box(image), READINGS, vbn))
+            mix(
+                sum,
+                &answer_of(|answer| words::map(black_box(image), READINGS, vbn, answer)),
+            )
         })
     };
     let plain = || {
@@ -289,7 +295,10 @@ fn open_volume(name: &str, image: &[u8]) {
     const CALLS: u64 = 20_000;
     let library = || {
         (0..CALLS).fold(0, |sum, _| {
-            mix(sum, &library::open_volume(black_box(image)))
+            mix(
+                sum,
+                &answer_of(|answer| words::open_volume(black_box(image), answer)),
+            )
         })
     };
     let plain = || {
@@ -314,7 +323,10 @@ fn look_up_absent(name: &str, image: &[u8]) {
     let absent = name_words("READS.DAT;32767");
     let library = || {
         (0..CALLS).fold(0, |sum, _| {
-            mix(sum, &library::look_up(black_box(image), DIRECTORY, absent))
+            mix(
+                sum,
+                &answer_of(|answer| words::look_up(black_box(image), DIRECTORY, absent, answer)),
+            )
         })
     };
     let plain = || {
@@ -350,7 +362,8 @@ fn walk(step: impl Fn(u32) -> Answer) -> (u64, u64) {
 
 /// Walking all records of a directory.
 fn walk_directory(name: &str, image: &[u8]) {
-    let by_library = |place| library::next_record(black_box(image), DIRECTORY, place);
+    let by_library =
+        |place| answer_of(|answer| words::next_record(black_box(image), DIRECTORY, place, answer));
     let by_plain =
         |place| answer_of(|answer| plain::next_record(black_box(image), DIRECTORY, place, answer));
     let (_, calls) = walk(by_plain);
@@ -385,7 +398,10 @@ fn judging<Measured>(
     let (by_library, by_plain) = (RefCell::new(areas()), RefCell::new(areas()));
     let library = || {
         let (blocks, headers) = &mut *by_library.borrow_mut();
-        mix(0, &library::judge(black_box(image), blocks, headers))
+        mix(
+            0,
+            &answer_of(|answer| words::judge(black_box(image), blocks, headers, answer)),
+        )
     };
     let plain = || {
         let (blocks, headers) = &mut *by_plain.borrow_mut();
