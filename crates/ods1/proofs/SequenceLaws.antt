@@ -24,8 +24,7 @@ use Rattle.update.specs.Delete.{deleteOutcome, deleted, deleteAnswer}
 use Rattle.update.proofs.PassedLaws.{extend-passed, delete-passed}
 use Rattle.ods1.specs.Changing.{extendedWords, deletedWords}
 use Rattle.ods1.specs.Reading.{openedFileWords, mappedWords, blockWords, foundWords, steppedWords}
-use Rattle.ods1.specs.Fields.{describedWords}
-use Rattle.ods1.specs.Space.{extentWords}
+use Rattle.words.specs.Words.{describedWords, extentWords}
 use Rattle.ods1.specs.Sequence.{OtherSequence, IsRefused, SequenceAsked}
 
 -- What opening a file is refused with.

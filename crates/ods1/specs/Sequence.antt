@@ -17,8 +17,7 @@ use Rattle.update.specs.Extend.{extendAnswer}
 use Rattle.update.specs.Delete.{deleteAnswer}
 use Rattle.ods1.specs.Changing.{extendedWords, deletedWords}
 use Rattle.ods1.specs.Reading.{openedFileWords, mappedWords, blockWords, foundWords, steppedWords}
-use Rattle.ods1.specs.Fields.{describedWords}
-use Rattle.ods1.specs.Space.{extentWords}
+use Rattle.words.specs.Words.{describedWords, extentWords}
 
 -- The sequence number of the ID is not H.FSEQ of the header in the slot of its number.
 abbrev pub OtherSequence : List ℕ → FileId → Type 0

@@ -2,17 +2,15 @@
 use answer::types::FileId;
 use answer::types::Lbn;
 use answer::types::Vbn;
-use answer::words::put_done;
-use answer::words::put_refused;
-use extents::Extent;
 use extents::extent_from;
-use free::Free;
 use free::free_run;
+use words::put_extent;
+use words::put_free;
 ghost use mathlib.Core.Path.{_≡_};
 ghost use Rattle.extents.specs.Extents.{extentAnswer};
 ghost use Rattle.free.specs.Free.{freeRun};
 ghost use Rattle.ods1.specs.Reading.{idOf};
-ghost use Rattle.ods1.specs.Space.{extentWords, freeWords};
+ghost use Rattle.words.specs.Words.{extentWords, freeWords};
 
 // The extent of a file from a VBN on: its LBN, and how many blocks lie in a row.
 #[no_mangle]
@@ -35,15 +33,7 @@ pub extern "C" fn ods1_extent(
         },
         Vbn(vbn),
     );
-    match extent {
-        Extent::Done(lbn, count) => {
-            let l = lbn.0;
-            put_done(answer, [l as u64, count as u64, 0, 0, 0, 0, 0, 0, 0, 0]);
-        }
-        Extent::Refused(r) => {
-            put_refused(answer, r);
-        }
-    }
+    put_extent(answer, extent);
 }
 
 // The first run of free blocks from an LBN on: its first LBN, and how many blocks it has.
@@ -52,13 +42,5 @@ pub extern "C" fn ods1_free_run(image: &[u8], from: u32, answer: &mut [u64; 12])
     ensures { λ _. ⌜ now (answer .exit) ≡ freeWords (freeRun (now (image .entry)) from) ⌝ }
 {
     let found = free_run(image, Lbn(from));
-    match found {
-        Free::Done(lbn, count) => {
-            let first = lbn.0;
-            put_done(answer, [first as u64, count as u64, 0, 0, 0, 0, 0, 0, 0, 0]);
-        }
-        Free::Refused(r) => {
-            put_refused(answer, r);
-        }
-    }
+    put_free(answer, found);
 }

@@ -1,37 +1,12 @@
--- The words of the case that the call answered.
+-- The words of what the call answered.
 use borrow.Author.Needs.{needs}
-use mathlib.Core.Path.{ap, sym, _∙_}
-use Rattle.ods1.specs.Fields.{laidWords}
+use mathlib.Core.Path.{ap, _∙_}
+use Rattle.words.specs.Words.{laidWords}
 use Rattle.ods1.proofs.fields.ods1_geometry.Statement.{statement}
 use Rattle.ods1.proofs.fields.ods1_geometry.Tie as tie
 
 returns : tie.Need-returns
-returns c =
-    let m = c .before .before .before .before .before .before .before .before .before .before .before .before in
-    c .put-done .ensures ∙ ap laidWords (sym (m .laid .given .1) ∙ m .before .before .geometry-of .ensures)
-
-returns-2 : tie.Need-returns-2
-returns-2 c =
-    let m = c .before .before .before in
-    c .put-refused .ensures ∙ ap laidWords (sym (m .laid2 .given .1) ∙ m .before .before .geometry-of .ensures)
+returns c = c .put-laid .ensures ∙ ap laidWords (c .before .before .geometry-of .ensures)
 
 pub ods1-geometry-spec : {M : Type 1} → statement M
-ods1-geometry-spec =
-    tie.close
-    (tie.spec
-    (search needs)
-    (search needs)
-    (search needs)
-    (search needs)
-    (search needs)
-    (search needs)
-    (search needs)
-    (search needs)
-    (search needs)
-    (search needs)
-    (search needs)
-    (search needs)
-    (search needs)
-    (search needs)
-    returns
-    returns-2)
+ods1-geometry-spec = tie.close (tie.spec (search needs) (search needs) returns)

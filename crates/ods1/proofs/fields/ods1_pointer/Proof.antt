@@ -1,30 +1,12 @@
--- The words of the case that the call answered.
+-- The words of what the call answered.
 use borrow.Author.Needs.{needs}
-use mathlib.Core.Path.{ap, sym, _∙_}
-use Rattle.ods1.specs.Fields.{pointedWords}
+use mathlib.Core.Path.{ap, _∙_}
+use Rattle.words.specs.Words.{pointedWords}
 use Rattle.ods1.proofs.fields.ods1_pointer.Statement.{statement}
 use Rattle.ods1.proofs.fields.ods1_pointer.Tie as tie
 
 returns : tie.Need-returns
-returns c =
-    let m = c .before .before .before in
-    c .put-done .ensures ∙ ap pointedWords (sym (m .pointed .given .1) ∙ m .before .before .show-pointer .ensures)
-
-returns-2 : tie.Need-returns-2
-returns-2 c =
-    let m = c .before .before .before in
-    c .put-refused .ensures ∙ ap pointedWords (sym (m .pointed2 .given .1) ∙ m .before .before .show-pointer .ensures)
+returns c = c .put-pointed .ensures ∙ ap pointedWords (c .before .before .show-pointer .ensures)
 
 pub ods1-pointer-spec : {M : Type 1} → statement M
-ods1-pointer-spec =
-    tie.close
-    (tie.spec
-    (search needs)
-    (search needs)
-    (search needs)
-    (search needs)
-    (search needs)
-    (search needs)
-    (search needs)
-    returns
-    returns-2)
+ods1-pointer-spec = tie.close (tie.spec (search needs) (search needs) returns)

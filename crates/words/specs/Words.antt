@@ -1,4 +1,4 @@
--- The answer words of the calls that tell what a volume, a header and a file say of themselves.
+-- The answer words of the calls that tell what a volume, a header and a file say of themselves, and blocks in a row.
 use Prim.Native.Nat.{ℕ}
 use mathlib.Core.List.{List, [], _∷_}
 use Rattle.answer.specs.Words.{doneWords, refusedWords}
@@ -12,6 +12,10 @@ use Rattle.facts.specs.declared.headers.Pointed.{Pointed}
 use Rattle.facts.specs.declared.headers.Pointed.the-variants as pointed
 use Rattle.facts.specs.declared.files.Described.{Described}
 use Rattle.facts.specs.declared.files.Described.the-variants as described
+use Rattle.extents.specs.declared.Extent.{Extent}
+use Rattle.extents.specs.declared.Extent.the-variants as extents
+use Rattle.free.specs.declared.Free.{Free}
+use Rattle.free.specs.declared.Free.the-variants as free
 
 -- N, the home's LBN, H.IBSZ, H.IBLB, H.FMAX, how many numbers have a slot, LBN and number of the blocks of the storage map's bits, H.VLEV.
 abbrev pub laidWords : Laid → List ℕ
@@ -84,3 +88,13 @@ describedWords (described.Done f) =
     ∷ f .«first_free»
     ∷ [])
 describedWords (described.Refused r) = refusedWords r
+
+-- The LBN of the VBN, and how many blocks lie in a row from there on.
+abbrev pub extentWords : Extent → List ℕ
+extentWords (extents.Done lbn count) = doneWords (lbn .0 ∷ count ∷ [])
+extentWords (extents.Refused r) = refusedWords r
+
+-- The first LBN of the run, and how many blocks it has.
+abbrev pub freeWords : Free → List ℕ
+freeWords (free.Done lbn count) = doneWords (lbn .0 ∷ count ∷ [])
+freeWords (free.Refused r) = refusedWords r
