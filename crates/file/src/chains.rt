@@ -5,9 +5,8 @@ use header::fields::h_fseq;
 use header::fields::m_efnu;
 use header::fields::m_efsq;
 use header::fields::segment;
-use header::pointers::Place;
 use header::pointers::block_count;
-use header::pointers::place_of;
+use header::pointers::lbn_in;
 use header::whole::fault;
 use image::blocks::block;
 use volume::volume::Slot;
@@ -130,7 +129,8 @@ pub fn chain_blocks(image: &[u8], v: Volume, n: FileNumber, lbn: Lbn) -> Chain
     }
 }
 
-// The LBN of block i, from 0, of the file whose first header has number n and lies at this LBN, where each link of its chain is good.
+// The LBN of block i, from 0, of the file whose first header has number n and lies at this LBN, where each link of its chain is good. Headers before
+// the one that has the block are stepped over by how many blocks they cover.
 pub fn lbn_at(image: &[u8], v: Volume, n: FileNumber, lbn: Lbn, i: u32) -> Lbn
     requires { ⌜ Open (now image) v × IsFirst (now image) (n .0) × (goodChain (now image) (n .0) ≡ true) × (i < length (fileBlocks (now image) (n .0))) × (lbn .0 ≡ slot (now image) (n .0)) ⌝ }
     ensures { λ r. ⌜ r .0 ≡ getD (fileBlocks (now (image .entry)) (n .0)) i 0 ⌝ }
@@ -138,15 +138,11 @@ pub fn lbn_at(image: &[u8], v: Volume, n: FileNumber, lbn: Lbn, i: u32) -> Lbn
     let mut h = block(image, lbn.0);
     let mut left = i;
     loop {
-        let place = place_of(h, left);
-        match place {
-            Place::At(found) => {
-                return found;
-            }
-            Place::Past(past) => {
-                left = past;
-                h = header_of(image, v, FileNumber(m_efnu(h) as u32));
-            }
+        let count = block_count(h);
+        if left < count {
+            return Lbn(lbn_in(h, left));
         }
+        left -= count;
+        h = header_of(image, v, FileNumber(m_efnu(h) as u32));
     }
 }

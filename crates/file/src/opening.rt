@@ -150,7 +150,7 @@ pub fn open_on(image: &[u8], v: Volume, id: FileId) -> OpenFile
     }
 }
 
-// Opens a file.
+// Opens a file. The volume that is handed on is what opening it gave, and not the copy that came back with the file.
 pub fn open(image: &[u8], id: FileId) -> OpenFile
     ensures { λ r. ⌜ Tells (now (image .entry)) id (openFile (now (image .entry)) id) r ⌝ }
 {
@@ -158,7 +158,17 @@ pub fn open(image: &[u8], id: FileId) -> OpenFile
     let v = opened.volume;
     let result = opened.outcome;
     match result {
-        Outcome::Passed => open_on(image, v, id),
+        Outcome::Passed => {
+            let file = open_on(image, v, id);
+            let outcome = file.outcome;
+            let header = file.header;
+            OpenFile {
+                outcome,
+                volume: v,
+                header,
+                blocks: file.blocks,
+            }
+        }
         Outcome::Refused(r) => refused(v, r),
     }
 }

@@ -1,15 +1,16 @@
 -- Laws of the blocks that a header's pointers cover.
-use mathlib.Core.Path.{_≡_, refl, ap, _∙_}
+use mathlib.Core.Path.{_≡_, refl, sym, ap, _∙_}
 use mathlib.Core.List.{List, [], _++_}
 use Prim.Native.Nat.{ℕ, zero, suc, _+_, _*_, _-_, _≤_, _<_}
 use native.Mathlib.Numerals.{add-one}
 use native.Mathlib.Decide.{decLt}
 use native.Mathlib.Omega.{arith}
 use borrow.Author.Tests.{lt-ltb, le-ltb}
-use lib.ListN.{length, getD, length-append, List·getD-append}
+use lib.ListN.{length, getD, length-append, List·getD-append, List·getD-eq-default}
 use lib.Seq.{getD-append-add}
 use Rattle.image.proofs.Numbers.{numbersFrom-length, numbersFrom-at}
 use Rattle.header.specs.Pointers.{pointerLbn, pointerCount, run, runs, placeIn}
+use Rattle.header.specs.declared.pointers.Place.{Place}
 use Rattle.header.specs.declared.pointers.Place.the-variants.{At, Past}
 
 module _ (lbns : List ℕ) (i : ℕ) where
@@ -20,6 +21,18 @@ module _ (lbns : List ℕ) (i : ℕ) where
   pub place-past : length lbns ≤ i → placeIn lbns i ≡ Past (i - length lbns)
   unfolding placeIn
   place-past h = rw (le-ltb i (length lbns) h)
+
+-- The LBN at a place; 0 past the last.
+abbrev pub placeLbn : Place → ℕ
+placeLbn (At l) = l .0
+placeLbn (Past i) = 0
+
+pub place-lbn : (lbns : List ℕ) (i : ℕ) → placeLbn (placeIn lbns i) ≡ getD lbns i 0
+place-lbn lbns i = go (decLt i (length lbns))
+  where
+    go : Dec (i < length lbns) → placeLbn (placeIn lbns i) ≡ getD lbns i 0
+    go (yes l) = rw (place-at lbns i l)
+    go (no l) = rw (place-past lbns i (omega arith)) (sym (List·getD-eq-default lbns 0 {n = i} (omega arith)))
 
 module _ (h : List ℕ) (at : ℕ) where
   pub run-length : length (run h at) ≡ pointerCount h at

@@ -4,7 +4,7 @@ use image::words::byte_or_zero;
 use image::words::word_at;
 ghost use mathlib.Core.Path.{_≡_};
 ghost use Prim.Native.Nat.{_+_, _≤_, _<_, _^_};
-ghost use lib.ListN.{length};
+ghost use lib.ListN.{length, getD};
 ghost use Rattle.header.specs.Pointers.{pointerLbn, pointerCount, pointersAt, pointers, Fits, blocksOf, placeIn};
 
 // Where a place, from 0, lies in the blocks of a header.
@@ -90,4 +90,16 @@ pub fn place_of(h: &[u8], i: u32) -> Place
         p += 1;
     }
     Place::Past(left)
+}
+
+// The LBN of block i, from 0, of those that the header covers; 0 past the last.
+pub fn lbn_in(h: &[u8], i: u32) -> u32
+    requires { ⌜ Fits (now h) ⌝ }
+    ensures { λ r. ⌜ r ≡ getD (blocksOf (now (h .entry))) i 0 ⌝ }
+{
+    let place = place_of(h, i);
+    match place {
+        Place::At(l) => l.0,
+        Place::Past(_) => 0,
+    }
 }

@@ -8,7 +8,7 @@ use native.Mathlib.Decide.{decLt}
 use native.Mathlib.Omega.{arith}
 use borrow.Author.Tests.{eqb-true, leb-true, ltb-true, eq-eqb, ne-eqb, le-leb, lt-leb}
 use lib.Dec.{eqb, leb}
-use lib.ListN.{length, getD, List·getD-eq-default}
+use lib.ListN.{length, getD}
 use Rattle.image.specs.First.{below}
 use Rattle.image.specs.Blocks.{block}
 use Rattle.image.proofs.Below.{below-at, below-all}
@@ -18,10 +18,8 @@ use Rattle.answer.specs.declared.refusal.Refusal.the-variants as refusal
 use Rattle.answer.specs.declared.outcome.Outcome.the-variants.{Passed, Refused}
 use Rattle.answer.specs.Outcome.{unless, _then_}
 use Rattle.answer.proofs.OutcomeLaws.{refused-not}
-use Rattle.header.specs.Pointers.{pointerLbn, pointerCount, runs, pointersAt, pointers, blocksOf, placeIn}
-use Rattle.header.specs.declared.pointers.Place.{Place}
-use Rattle.header.specs.declared.pointers.Place.the-variants.{At, Past}
-use Rattle.header.proofs.PointerLaws.{place-at, place-past, runs-none, runs-length, runs-at}
+use Rattle.header.specs.Pointers.{pointerLbn, pointerCount, runs, pointersAt, pointers, blocksOf}
+use Rattle.header.proofs.PointerLaws.{runs-none, runs-length, runs-at}
 use Rattle.volume.specs.Home.{blocks, positions, homeIndex, home}
 use Rattle.volume.proofs.HomeLaws.{position-below}
 use Rattle.volume.specs.declared.opening.OpenVolume.{OpenVolume}
@@ -205,15 +203,3 @@ module _ (q : ℕ) (h : List ℕ) (t : storageMapped q h ≡ true) where
       go : (pointers h ≡ 1) ⊎ (pointers h ≡ 2) × (pointerCount h at ≡ 1) → getD (blocksOf h) (1 + i) 0 ≡ getD (blocksOf h) 1 0 + i
       go (inl one) = omega (arith, row-of one (1 + i) (omega arith), row-of one 1 (omega arith))
       go (inr two) = omega (arith, row-after (two .0) (two .1) i l, row-after (two .0) (two .1) 0 (omega arith))
-
--- The LBN of a place among the blocks of a header.
-abbrev pub lbnOf : Place → ℕ
-lbnOf (At l) = l .0
-lbnOf (Past i) = 0
-
-pub lbn-of-place : (lbns : List ℕ) (i : ℕ) → lbnOf (placeIn lbns i) ≡ getD lbns i 0
-lbn-of-place lbns i = go (decLt i (length lbns))
-  where
-    go : Dec (i < length lbns) → lbnOf (placeIn lbns i) ≡ getD lbns i 0
-    go (yes l) = rw (place-at lbns i l)
-    go (no l) = rw (place-past lbns i (omega arith)) (sym (List·getD-eq-default lbns 0 {n = i} (omega arith)))

@@ -12,10 +12,9 @@ use answer::types::Lbn;
 use header::fields::h_fseq;
 use header::fields::m_efnu;
 use header::fields::segment;
-use header::pointers::Place;
 use header::pointers::block_count;
 use header::pointers::first_pointer;
-use header::pointers::place_of;
+use header::pointers::lbn_in;
 use header::pointers::pointer_count;
 use header::pointers::pointer_lbn;
 use header::pointers::pointer_number;
@@ -159,7 +158,7 @@ fn least(a: u32, b: u32) -> u32
     if a <= b { a } else { b }
 }
 
-// Whether the first m + 18 blocks of a header are those of the index file. Its pointers are walked in order.
+// Whether the first m + 18 blocks of a header are those of the index file. Its pointers are walked in order, as far as these blocks go.
 fn is_index_mapped(h: &[u8], home: u32, iblb: u32, m: u32) -> bool
     requires { ⌜ Fits (now h) × (iblb < 2 ^ 31) × (m < 2 ^ 30) ⌝ }
     ensures { λ r. ⌜ r ≡ indexMapped home iblb m (blocksOf (now (h .entry))) ⌝ }
@@ -169,6 +168,9 @@ fn is_index_mapped(h: &[u8], home: u32, iblb: u32, m: u32) -> bool
     let mut done: u32 = 0;
     let mut p: usize = 0;
     while p < number {
+        if done == m + 18 {
+            return true;
+        }
         let lbn = pointer_lbn(h, at + 4 * p);
         let c = least(pointer_count(h, at + 4 * p), m + 18 - done);
         if !is_index_run(lbn, c, home, iblb, done) {
@@ -201,18 +203,6 @@ fn is_storage_mapped(h: &[u8], q: u32) -> bool
     true
 }
 
-// The LBN of block i, from 0, of a header; 0 past the last.
-fn lbn_at(h: &[u8], i: u32) -> u32
-    requires { ⌜ Fits (now h) ⌝ }
-    ensures { λ r. ⌜ r ≡ getD (blocksOf (now (h .entry))) i 0 ⌝ }
-{
-    let place = place_of(h, i);
-    match place {
-        Place::At(l) => l.0,
-        Place::Past(_) => 0,
-    }
-}
-
 // Whether header 1 is the index file's, on a volume of so many blocks.
 fn is_indexed(h: &[u8], blocks: u32, home: u32, iblb: u32, m: u32) -> bool
     requires { ⌜ (length (now h) ≡ 512) × (iblb < 2 ^ 31) × (m < 2 ^ 30) ⌝ }
@@ -241,7 +231,7 @@ fn is_stored(image: &[u8], h: &[u8], blocks: u32) -> bool
     if !mapped {
         return false;
     }
-    let first = block(image, lbn_at(h, 0));
+    let first = block(image, lbn_in(h, 0));
     let control = byte_or_zero(first, 3);
     (control as u32) == q
 }
@@ -262,7 +252,7 @@ fn open_laid_out(image: &[u8], v: Volume) -> OpenVolume
     if !stored {
         return refused(Refusal::Storage);
     }
-    let base = lbn_at(h2, 1);
+    let base = lbn_in(h2, 1);
     let volume = Volume {
         blocks: v.blocks,
         home: v.home,

@@ -20,10 +20,11 @@ open-on-requires c κs = (passed c, c .before .before .before .open .ensures .1 
 returns : tie.Need-returns
 unfolding openFile
 returns c =
-    let t = c .before in
+    let t = c .before .before in
     let a = t .before .before .before .before .before .args in
-    let image = now (a .image) in
-    rw (then-passed (openVolume image) _ (passed t)) (c .open-on .ensures)
+    let o = t .before .before .before in
+    let told = c .before .open-on .ensures in
+    rw (then-passed (openVolume (now (a .image))) _ (passed t)) (told .0, λ p. (o .open .ensures .1 (passed t), told .1 p .1, told .1 p .2), told .2)
 
 returns-2 : tie.Need-returns-2
 unfolding openFile

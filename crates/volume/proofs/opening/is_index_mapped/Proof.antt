@@ -7,11 +7,11 @@ use mathlib.Core.List.{List}
 use Prim.Native.Nat.{ℕ, _+_, _-_, _≤_, _<_, min}
 use denote.Ref.{now}
 use lib.ListN.{length, getD}
-use borrow.Author.Tests.{not-true, not-false}
+use borrow.Author.Tests.{not-true, not-false, eq-eqb}
 use Rattle.image.specs.First.{below}
 use Rattle.image.proofs.Below.{below-none}
 use Rattle.header.specs.Pointers.{pointers, runs, blocksOf}
-use Rattle.header.proofs.PointerLaws.{runs-none, runs-length, runs-at}
+use Rattle.header.proofs.PointerLaws.{runs-none, runs-length, runs-le, runs-at}
 use Rattle.volume.specs.Opening.{indexAt, indexMapped}
 use Rattle.volume.proofs.OpeningLaws.{index-more, index-off, index-end}
 use Rattle.volume.proofs.opening.is_index_mapped.Statement.{statement}
@@ -23,6 +23,14 @@ Inv-loop h home iblb m at number done₀ p₀ done p = (p ≤ number) × (done �
 abbrev μ-loop : tie.MeasureT-loop
 μ-loop h home iblb m at number done₀ p₀ done p = number - p
 
+-- What is asked for lies in a list, and so it does in a longer one.
+enough : (short long most k : ℕ) → k ≡ min short most → k ≡ most → short ≤ long → k ≡ min long most
+enough short long most k e f s = omega arith
+
+-- Some blocks more, as far as what is asked for goes.
+further : (short more most k c : ℕ) → k ≡ min short most → c ≡ min more (most - k) → k + c ≡ min (short + more) most
+further short more most k c e f = omega arith
+
 -- The blocks of the pointers are those of the header.
 all-runs : (c : tie.After-pointer-number Inv-loop μ-loop) → runs (now (c .before .before .before .args .h)) (c .before .first-pointer .result) (c .pointer-number .result) ≡ blocksOf (now (c .before .before .before .args .h))
 unfolding blocksOf
@@ -30,10 +38,10 @@ all-runs c = ap₂ (runs (now (c .before .before .before .args .h))) (c .before 
 
 -- The blocks of the pointer that is read stand after those so far.
 row : (c : tie.After-least Inv-loop μ-loop) (i : ℕ) → i < c .least .result
-    → getD (blocksOf (now (c .before .before .before .before .before .before .before .before .args .h))) (c .before .before .before .before .loop .done + i) 0
+    → getD (blocksOf (now (c .before .before .before .before .before .before .before .before .before .args .h))) (c .before .before .before .before .before .loop .done + i) 0
     ≡ c .before .before .pointer-lbn .result + i
 row c i s =
-    let l = c .before .before .before .before in
+    let l = c .before .before .before .before .before in
     let n = l .before in
     let h = now (n .before .before .before .args .h) in
     let at = n .before .first-pointer .result in
@@ -47,30 +55,44 @@ loop-holds c =
     let f = c .before in
     (search needs, omega (arith, ap length (runs-none (now (f .before .before .args .h)) (f .first-pointer .result))), below-none _)
 
+-- All blocks that are asked for lie in the pointers so far.
 returns : tie.Need-returns Inv-loop μ-loop
-unfolding indexMapped
 returns c =
+    let l = c .before .before in
+    let n = l .before in
+    let a = n .before .before .before .args in
+    let h = now (a .h) in
+    let at = n .before .first-pointer .result in
+    let most : length (runs h at (l .loop .p)) ≤ length (blocksOf h) = rw (← all-runs n) (runs-le h at (l .loop .p) (n .pointer-number .result) (l .loop .inv .0)) in
+    sym (eq-eqb (l .loop .done) (a .m + 18) (c .if1 .taken))
+    ∙ index-end (a .home) (a .iblb) (a .m) (blocksOf h) (l .loop .done) (enough _ _ _ _ (l .loop .inv .1) (c .if1 .taken) most) (l .loop .inv .2)
+
+returns-2 : tie.Need-returns-2 Inv-loop μ-loop
+unfolding indexMapped
+returns-2 c =
     let r = c .before in
     let t = r .before in
-    let l = t .before .before .before .before in
+    let l = t .before .before .before .before .before in
     let a = l .before .before .before .before .args in
     let h = now (a .h) in
-    rw (index-off (a .home) (a .iblb) (blocksOf h) (t .before .before .pointer-lbn .result) (l .loop .done) (t .least .result) (row t) (a .m + 18) (omega arith) (sym (r .is-index-run .ensures) ∙ not-true (r .is-index-run .result) (c .if1 .taken)), and-false)
+    rw (index-off (a .home) (a .iblb) (blocksOf h) (t .before .before .pointer-lbn .result) (l .loop .done) (t .least .result) (row t) (a .m + 18) (omega arith) (sym (r .is-index-run .ensures) ∙ not-true (r .is-index-run .result) (c .if2 .taken)), and-false)
 
 loop-again : tie.Need-loop-again Inv-loop μ-loop
 loop-again c =
     let r = c .before in
     let t = r .before in
-    let l = t .before .before .before .before in
+    let l = t .before .before .before .before .before in
     let a = l .before .before .before .before .args in
-    let h = now (a .h) in (
+    let h = now (a .h) in
+    let at = l .before .before .first-pointer .result in (
       search needs,
-      omega (arith, runs-length h (l .before .before .first-pointer .result) (l .loop .p)),
-      index-more (a .home) (a .iblb) (blocksOf h) (t .before .before .pointer-lbn .result) (l .loop .done) (t .least .result) (row t) (l .loop .inv .2) (sym (r .is-index-run .ensures) ∙ not-false (r .is-index-run .result) (c .if1 .left)),
+      further (length (runs h at (l .loop .p))) (t .before .pointer-count .result) (a .m + 18) (l .loop .done) (t .least .result) (l .loop .inv .1) (t .least .ensures)
+          ∙ ap (λ (k : ℕ). min k (a .m + 18)) (omega (arith, runs-length h at (l .loop .p), t .before .pointer-count .ensures .0)),
+      index-more (a .home) (a .iblb) (blocksOf h) (t .before .before .pointer-lbn .result) (l .loop .done) (t .least .result) (row t) (l .loop .inv .2) (sym (r .is-index-run .ensures) ∙ not-false (r .is-index-run .result) (c .if2 .left)),
     )
 
-returns-2 : tie.Need-returns-2 Inv-loop μ-loop
-returns-2 c =
+returns-3 : tie.Need-returns-3 Inv-loop μ-loop
+returns-3 c =
     let l = c .before in
     let n = l .before in
     let a = n .before .before .before .args in
@@ -81,6 +103,6 @@ returns-2 c =
 pub is-index-mapped-spec : {M : Type 1} → statement M
 is-index-mapped-spec =
     tie.close
-    (tie.spec Inv-loop μ-loop (search needs) (search needs) loop-holds (search needs) (search needs) (search needs) (search needs) (search needs)
-    (search needs) (search needs) (search needs) (search needs) (search needs) returns (search needs) (search needs) (search needs) loop-again
-    (search needs) returns-2)
+    (tie.spec Inv-loop μ-loop (search needs) (search needs) loop-holds (search needs) returns (search needs) (search needs) (search needs) (search needs)
+    (search needs) (search needs) (search needs) (search needs) (search needs) (search needs) returns-2 (search needs) (search needs) (search needs)
+    loop-again (search needs) returns-3)

@@ -31,8 +31,8 @@ returns-2 c =
     let m = c .before in
     rw (← m .before .map-blocks .ensures .0, ← m .is-storage-mapped .ensures, not-true (m .is-storage-mapped .result) (c .if2 .taken), and-false)
 
-lbn-at-requires : tie.Need-lbn-at-requires
-lbn-at-requires c κs = fits (c .before .before .before)
+lbn-in-requires : tie.Need-lbn-in-requires
+lbn-in-requires c κs = fits (c .before .before .before)
 
 returns-3 : tie.Need-returns-3
 returns-3 c =
@@ -40,9 +40,9 @@ returns-3 c =
     let m = l .before .before in
     let e = m .before .before in
     let r = e .before in
-    rw (← r .is-alone .ensures, not-false (r .is-alone .result) (e .if1 .left), ← m .before .map-blocks .ensures .0, ← m .is-storage-mapped .ensures, not-false (m .is-storage-mapped .result) (l .before .if2 .left), ← l .lbn-at .ensures, ← c .before .block .ensures, ← c .byte-or-zero .ensures)
+    rw (← r .is-alone .ensures, not-false (r .is-alone .result) (e .if1 .left), ← m .before .map-blocks .ensures .0, ← m .is-storage-mapped .ensures, not-false (m .is-storage-mapped .result) (l .before .if2 .left), ← l .lbn-in .ensures, ← c .before .block .ensures, ← c .byte-or-zero .ensures)
 
 pub is-stored-spec : {M : Type 1} → statement M
 is-stored-spec =
     tie.close
-    (tie.spec (search needs) returns (search needs) is-storage-mapped-requires returns-2 lbn-at-requires (search needs) (search needs) (search needs) returns-3)
+    (tie.spec (search needs) returns (search needs) is-storage-mapped-requires returns-2 lbn-in-requires (search needs) (search needs) (search needs) returns-3)

@@ -88,8 +88,8 @@ returns-2 c =
     open-refused image refusal.Storage (c .refused2 .result) (c .refused2 .ensures)
     (open-storage image (s .pre .0) (s .pre .1) (s .pre .2) (indexes i) (sym (stored-read t) ∙ not-true (t .is-stored .result) (c .before .if2 .taken)))
 
-lbn-at-requires : tie.Need-lbn-at-requires
-lbn-at-requires c κs =
+lbn-in-requires : tie.Need-lbn-in-requires
+lbn-in-requires c κs =
     let h = c .before .before in
     let image = now (h .before .before .before .before .before .before .before .args .image) in
     let long = header2-long h in
@@ -106,11 +106,11 @@ returns-3 c =
     let l = s .pre .3 in (
       sym (open-passed image (s .pre .0) (s .pre .1) (s .pre .2) (indexes i) (stores t)),
       λ p. says-all image _ (record { blocks = l .blocks; home = l .home; ibsz = l .ibsz; iblb = l .iblb; fmax = l .fmax })
-          (c .lbn-at .ensures ∙ ap₂ (λ (h : List ℕ) (i : ℕ). getD (blocksOf h) i 0) (header2-read h) (omega arith)),
+          (c .lbn-in .ensures ∙ ap₂ (λ (h : List ℕ) (i : ℕ). getD (blocksOf h) i 0) (header2-read h) (omega arith)),
     )
 
 pub open-laid-out-spec : {M : Type 1} → statement M
 open-laid-out-spec =
     tie.close
     (tie.spec add-block (search needs) is-indexed-requires (search needs) returns add-block-2 add-block-3 (search needs) is-stored-requires
-    (search needs) returns-2 lbn-at-requires returns-3)
+    (search needs) returns-2 lbn-in-requires returns-3)
