@@ -6,6 +6,7 @@ use Prim.Native.Nat.{ℕ, _+_, _*_, _≤_, _<_}
 use native.Mathlib.Omega.{arith}
 use borrow.Author.Tests.{eq-eqb, ne-eqb, eqb-true, lt-ltb, le-ltb}
 use lib.Dec.{eqb}
+use lib.ListN.{length}
 use Rattle.image.specs.Words.{wordAt}
 use Rattle.answer.specs.declared.types.Lbn.{Lbn}
 use Rattle.answer.specs.declared.types.Name.{Name}
@@ -14,18 +15,18 @@ use Rattle.answer.specs.declared.refusal.Refusal.the-variants as refusal
 use Rattle.answer.specs.declared.outcome.Outcome.{Outcome}
 use Rattle.answer.specs.declared.outcome.Outcome.the-variants.{Passed, Refused}
 use Rattle.answer.specs.Outcome.{unless, _then_}
-use Rattle.answer.proofs.OutcomeLaws.{passed-then, passed-last, passed-first}
+use Rattle.answer.proofs.OutcomeLaws.{refused-not, passed-then, passed-last, passed-first}
 use Rattle.header.specs.Fields.{hIdof}
 use Rattle.header.specs.Pointers.{pointerLbn, pointerCount, pointers, Fits}
+use Rattle.header.proofs.WholeLaws.{whole-is}
+use Rattle.volume.specs.Home.{blocks}
 use Rattle.volume.specs.Volume.{slot, header, faultOf, isNumber}
 use Rattle.volume.specs.Opening.{openVolume}
-use Rattle.file.proofs.NumberLaws.{number-fits}
+use Rattle.file.proofs.NumberLaws.{number-length, number-fits}
 use Rattle.facts.specs.declared.headers.HeaderFacts.{HeaderFacts}
-use Rattle.facts.specs.declared.headers.Sought.{Sought}
-use Rattle.facts.specs.declared.headers.Sought.the-variants as sought
 use Rattle.facts.specs.declared.headers.Shown.the-variants as shown
 use Rattle.facts.specs.declared.headers.Pointed.the-variants as pointed
-use Rattle.facts.specs.Headers.{findHeader, soughtBy, identWord, identName, factsOf, shownBy, headerAnswer, pointerAt, findPointer, pointedBy, pointerAnswer}
+use Rattle.facts.specs.Headers.{findNumber, findHeader, identWord, identName, factsOf, shownBy, headerAnswer, pointerAt, findPointer, pointedBy, pointerAnswer}
 
 -- The five words from the ident area's first byte on are the name.
 module _ (h : List ℕ) (at : ℕ) (e : at ≡ 2 * hIdof h) where
@@ -45,55 +46,53 @@ module _ (h : List ℕ) (at : ℕ) (e : at ≡ 2 * hIdof h) where
   }
 
 module _ (image : List ℕ) (n : ℕ) where
-  -- What finding the header comes to, by its tests.
+  -- What finding the header on an opened volume comes to, by its tests.
+  pub find-number : isNumber image n ≡ false → findNumber image n ≡ Refused refusal.Number
+  unfolding findNumber unless _then_
+  find-number u = rw u
+
+  module _ (u : isNumber image n ≡ true) where
+    pub find-unwhole : (faultOf image n ≡ 0 → ⊥) → findNumber image n ≡ Refused (refusal.Header (faultOf image n))
+    unfolding findNumber unless _then_
+    find-unwhole w = rw (u, ne-eqb (faultOf image n) 0 w)
+
+    pub find-passed : faultOf image n ≡ 0 → findNumber image n ≡ Passed
+    unfolding findNumber unless _then_
+    find-passed w = rw (u, eq-eqb (faultOf image n) 0 w)
+
+  -- What is refused lies nowhere.
+  pub refused-only : (r : Refusal) → findNumber image n ≡ Refused r → (lbn : ℕ) → findNumber image n ≡ Passed → lbn ≡ slot image n
+  refused-only r e lbn p = absurd (refused-not r (sym e ∙ p))
+
+  -- The volume is opened first.
   pub find-closed : (r : Refusal) → openVolume image ≡ Refused r → findHeader image n ≡ Refused r
   unfolding findHeader _then_
   find-closed r o = rw o
 
-  module _ (o : openVolume image ≡ Passed) where
-    pub find-number : isNumber image n ≡ false → findHeader image n ≡ Refused refusal.Number
-    unfolding findHeader unless _then_
-    find-number u = rw (o, u)
+  pub find-opened : openVolume image ≡ Passed → findHeader image n ≡ findNumber image n
+  unfolding findHeader _then_
+  find-opened o = rw o
 
-    module _ (u : isNumber image n ≡ true) where
-      pub find-unwhole : (faultOf image n ≡ 0 → ⊥) → findHeader image n ≡ Refused (refusal.Header (faultOf image n))
-      unfolding findHeader unless _then_
-      find-unwhole w = rw (o, u, ne-eqb (faultOf image n) 0 w)
-
-      pub find-passed : faultOf image n ≡ 0 → findHeader image n ≡ Passed
-      unfolding findHeader unless _then_
-      find-passed w = rw (o, u, eq-eqb (faultOf image n) 0 w)
-
-  -- What is said of it.
-  pub sought-at : findHeader image n ≡ Passed → (lbn : Lbn) → lbn .0 ≡ slot image n → sought.At lbn ≡ soughtBy (findHeader image n) (slot image n)
-  unfolding soughtBy
-  sought-at e lbn s = rw (e, ← s)
-
-  pub sought-refused : (r : Refusal) → findHeader image n ≡ Refused r → sought.Refused r ≡ soughtBy (findHeader image n) (slot image n)
-  unfolding soughtBy
-  sought-refused r e = rw e
-
-  -- What is known of the header by what finding it came to.
-  abbrev pub Found : Sought → Type 0
-  Found (sought.At lbn) = (findHeader image n ≡ Passed) × (lbn .0 ≡ slot image n)
-  Found (sought.Refused r) = findHeader image n ≡ Refused r
-
-  pub found : (s : Sought) → s ≡ soughtBy (findHeader image n) (slot image n) → Found s
-  unfolding soughtBy
-  found s e = subst Found (sym e) (go (findHeader image n) refl)
-    where
-      go : (o : Outcome) → findHeader image n ≡ o → Found (soughtBy (findHeader image n) (slot image n))
-      go Passed q = rw q (q, refl)
-      go (Refused r) q = rw q q
-
-  -- The pointers of a header that was found lie in it.
-  pub found-fits : findHeader image n ≡ Passed → Fits (header image n)
-  unfolding findHeader
-  found-fits e =
+  -- A header that was found is that of a number in use on a volume that opens, and is whole.
+  tested : findHeader image n ≡ Passed → (openVolume image ≡ Passed) × (isNumber image n ≡ true) × (faultOf image n ≡ 0)
+  unfolding findHeader findNumber
+  tested e =
       let o = passed-then (openVolume image) _ e in
       let u = passed-first (isNumber image n) refusal.Number _ (o .1) in
       let w = passed-last (eqb (faultOf image n) 0) (refusal.Header (faultOf image n)) (u .1) in
-      number-fits image n (u .0) (o .0) (eqb-true (faultOf image n) 0 w)
+      (o .0, u .0, eqb-true (faultOf image n) 0 w)
+
+  -- Its pointers lie in it.
+  pub found-fits : findHeader image n ≡ Passed → Fits (header image n)
+  found-fits e = let t = tested e in number-fits image n (t .1) (t .0) (t .2)
+
+  -- And so does its ident area, which ends before the map area does.
+  pub found-ident : findHeader image n ≡ Passed → (length (header image n) ≡ 512) × (hIdof (header image n) ≤ 250)
+  unfolding faultOf
+  found-ident e =
+      let t = tested e in
+      let w = whole-is (blocks image) n (header image n) (t .2) in
+      (number-length image n (t .1) (t .0), omega (arith, w .map, w .room))
 
   -- What the header says.
   pub shown-refused : (r : Refusal) → findHeader image n ≡ Refused r → shown.Refused r ≡ headerAnswer image n

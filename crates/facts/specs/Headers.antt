@@ -13,24 +13,18 @@ use Rattle.header.specs.Pointers.{pointerLbn, pointerCount, pointersAt, pointer
 use Rattle.volume.specs.Volume.{header, faultOf, isNumber}
 use Rattle.volume.specs.Opening.{openVolume}
 use Rattle.facts.specs.declared.headers.HeaderFacts.{HeaderFacts}
-use Rattle.facts.specs.declared.headers.Sought.{Sought}
-use Rattle.facts.specs.declared.headers.Sought.the-variants as sought
 use Rattle.facts.specs.declared.headers.Shown.{Shown}
 use Rattle.facts.specs.declared.headers.Shown.the-variants as shown
 use Rattle.facts.specs.declared.headers.Pointed.{Pointed}
 use Rattle.facts.specs.declared.headers.Pointed.the-variants as pointed
 
--- 01, Answer numbers: 1 to 5; "7 NUMBER | 0, above H.FMAX, no slot, not in use"; "8 HEADER | not whole". HEADER carries the first unmet test.
-unfoldable pub findHeader : List ℕ → ℕ → Outcome
-findHeader image n =
-    openVolume image
-    then unless (isNumber image n) refusal.Number
-    then unless (eqb (faultOf image n) 0) (refusal.Header (faultOf image n))
+-- 01, Answer numbers: "7 NUMBER | 0, above H.FMAX, no slot, not in use"; "8 HEADER | not whole". HEADER carries the first unmet test.
+unfoldable pub findNumber : List ℕ → ℕ → Outcome
+findNumber image n = unless (isNumber image n) refusal.Number then unless (eqb (faultOf image n) 0) (refusal.Header (faultOf image n))
 
--- What finding the header of a number comes to: the LBN that it lies at, or the refusal.
-unfoldable pub soughtBy : Outcome → ℕ → Sought
-soughtBy outcome.Passed lbn = sought.At (record { 0 = lbn })
-soughtBy (outcome.Refused r) lbn = sought.Refused r
+-- Every call on a volume opens it first; 01, Answer numbers: 1 to 5, then 7 and 8.
+unfoldable pub findHeader : List ℕ → ℕ → Outcome
+findHeader image n = openVolume image then findNumber image n
 
 -- 000, 3.4.2: "The ident area of the file header begins at the word indicated by H.IDOF." The word k, from 0, of it.
 unfoldable pub identWord : List ℕ → ℕ → ℕ

@@ -4,9 +4,10 @@ use answer::refusal::Refusal;
 use answer::types::FileId;
 use file::opening::open;
 use image::blocks::block;
-use image::words::word_or_zero;
+use image::words::word_at;
 ghost use mathlib.Core.Path.{_≡_};
-ghost use Prim.Native.Nat.{_+_, _*_, _≤_};
+ghost use Prim.Native.Nat.{_+_, _*_, _<_};
+ghost use lib.ListN.{length};
 ghost use Rattle.image.specs.Words.{wordAt};
 ghost use Rattle.facts.specs.Files.{endOf, fileFacts, fileAnswer};
 
@@ -42,14 +43,15 @@ pub enum Described {
 
 // Two words of a header as one number, the high word first.
 fn long_at(h: &[u8], at: usize) -> u32
-    requires { ⌜ at ≤ 512 ⌝ }
+    requires { ⌜ at + 3 < length (now h) ⌝ }
     ensures { λ r. ⌜ r ≡ 65536 * wordAt (now (h .entry)) at + wordAt (now (h .entry)) (at + 2) ⌝ }
 {
-    65536 * (word_or_zero(h, at) as u32) + (word_or_zero(h, at + 2) as u32)
+    65536 * (word_at(h, at) as u32) + (word_at(h, at + 2) as u32)
 }
 
 // How many bytes of a file of so many blocks, whose first header is h, lie before its end.
 fn end_of(h: &[u8], count: u32) -> u64
+    requires { ⌜ length (now h) ≡ 512 ⌝ }
     ensures { λ r. ⌜ r ≡ endOf (now (h .entry)) count ⌝ }
 {
     let all = 512 * (count as u64);
@@ -57,25 +59,26 @@ fn end_of(h: &[u8], count: u32) -> u64
     if last == 0 {
         return all;
     }
-    let end = 512 * ((last as u64) - 1) + (word_or_zero(h, 26) as u64);
+    let end = 512 * ((last as u64) - 1) + (word_at(h, 26) as u64);
     if end <= all { end } else { all }
 }
 
 // What the first header of a file of so many blocks says.
 fn facts_of(h: &[u8], count: u32) -> FileFacts
+    requires { ⌜ length (now h) ≡ 512 ⌝ }
     ensures { λ r. ⌜ r ≡ fileFacts (now (h .entry)) count ⌝ }
 {
     FileFacts {
         blocks: count,
         end: end_of(h, count),
-        owner: word_or_zero(h, 8),
-        protection: word_or_zero(h, 10),
-        flags: word_or_zero(h, 12),
-        record_type: word_or_zero(h, 14),
-        record_size: word_or_zero(h, 16),
+        owner: word_at(h, 8),
+        protection: word_at(h, 10),
+        flags: word_at(h, 12),
+        record_type: word_at(h, 14),
+        record_size: word_at(h, 16),
         highest: long_at(h, 18),
         end_block: long_at(h, 22),
-        first_free: word_or_zero(h, 26),
+        first_free: word_at(h, 26),
     }
 }
 

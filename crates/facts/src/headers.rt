@@ -16,12 +16,18 @@ use header::pointers::pointer_number;
 use header::whole::fault;
 use image::blocks::block;
 use image::words::byte_or_zero;
-use image::words::word_or_zero;
+use image::words::word_at;
 use volume::opening::open;
 use volume::volume::Slot;
+use volume::volume::Volume;
 ghost use mathlib.Core.Path.{_≡_};
+ghost use Prim.Native.Nat.{_≤_};
+ghost use lib.ListN.{length};
+ghost use Rattle.header.specs.Fields.{hIdof};
+ghost use Rattle.answer.specs.declared.outcome.Outcome.the-variants as outcome;
 ghost use Rattle.volume.specs.Volume.{slot};
-ghost use Rattle.facts.specs.Headers.{findHeader, soughtBy, identName, factsOf, headerAnswer, pointerAnswer};
+ghost use Rattle.volume.specs.Opening.{Open};
+ghost use Rattle.facts.specs.Headers.{findNumber, identName, factsOf, headerAnswer, pointerAnswer};
 
 // What a header says.
 pub struct HeaderFacts {
@@ -53,54 +59,63 @@ pub enum Pointed {
 }
 
 // What finding a number's header comes to.
-pub enum Sought {
-    // It lies at this LBN.
-    At(Lbn),
-    Refused(Refusal),
+pub struct Sought {
+    pub outcome: Outcome,
+    // The LBN of the header; it says nothing where the outcome is a refusal.
+    pub header: Lbn,
 }
 
-// Finding the header of a number: opening the volume, NUMBER, HEADER.
-fn seek(image: &[u8], n: FileNumber) -> Sought
-    ensures { λ r. ⌜ r ≡ soughtBy (findHeader (now (image .entry)) (n .0)) (slot (now (image .entry)) (n .0)) ⌝ }
+// A refusal.
+fn refused(r: Refusal) -> Sought
+    ensures { λ s. ⌜ s .outcome ≡ outcome.Refused r ⌝ }
 {
-    let opened = open(image);
-    let v = opened.volume;
-    let result = opened.outcome;
-    match result {
-        Outcome::Passed => {
-            let place = slot_in_use(image, v, n);
-            match place {
-                Slot::At(lbn) => {
-                    let unmet = fault(block(image, lbn.0), v.blocks, n.0);
-                    if unmet != 0 {
-                        return Sought::Refused(Refusal::Header(unmet));
-                    }
-                    Sought::At(lbn)
-                }
-                Slot::Missing => Sought::Refused(Refusal::Number),
-            }
-        }
-        Outcome::Refused(r) => Sought::Refused(r),
+    Sought {
+        outcome: Outcome::Refused(r),
+        header: Lbn(0),
     }
 }
 
-// The name in the ident area of a header.
+// Finding the header of a number on an opened volume: NUMBER, HEADER.
+fn seek(image: &[u8], v: Volume, n: FileNumber) -> Sought
+    requires { ⌜ Open (now image) v ⌝ }
+    ensures { λ r. ⌜ (r .outcome ≡ findNumber (now (image .entry)) (n .0))
+        × (findNumber (now (image .entry)) (n .0) ≡ outcome.Passed → r .header .0 ≡ slot (now (image .entry)) (n .0)) ⌝ }
+{
+    let place = slot_in_use(image, v, n);
+    match place {
+        Slot::At(lbn) => {
+            let unmet = fault(block(image, lbn.0), v.blocks, n.0);
+            if unmet != 0 {
+                return refused(Refusal::Header(unmet));
+            }
+            Sought {
+                outcome: Outcome::Passed,
+                header: lbn,
+            }
+        }
+        Slot::Missing => refused(Refusal::Number),
+    }
+}
+
+// The name in the ident area of a header that has all of it.
 fn ident_name(h: &[u8]) -> Name
+    requires { ⌜ (length (now h) ≡ 512) × (hIdof (now h) ≤ 250) ⌝ }
     ensures { λ r. ⌜ r ≡ identName (now (h .entry)) ⌝ }
 {
     let idof = byte_or_zero(h, 0);
     let at = 2 * (idof as usize);
     Name {
-        name1: word_or_zero(h, at),
-        name2: word_or_zero(h, at + 2),
-        name3: word_or_zero(h, at + 4),
-        typ: word_or_zero(h, at + 6),
-        version: word_or_zero(h, at + 8),
+        name1: word_at(h, at),
+        name2: word_at(h, at + 2),
+        name3: word_at(h, at + 4),
+        typ: word_at(h, at + 6),
+        version: word_at(h, at + 8),
     }
 }
 
-// What a header says.
+// What a header says that has all of its ident area.
 fn facts_of(h: &[u8]) -> HeaderFacts
+    requires { ⌜ (length (now h) ≡ 512) × (hIdof (now h) ≤ 250) ⌝ }
     ensures { λ r. ⌜ r ≡ factsOf (now (h .entry)) ⌝ }
 {
     HeaderFacts {
@@ -113,24 +128,43 @@ fn facts_of(h: &[u8]) -> HeaderFacts
     }
 }
 
+// What the header of a file number says, on an opened volume.
+fn show_header_on(image: &[u8], v: Volume, n: FileNumber) -> Shown
+    requires { ⌜ Open (now image) v ⌝ }
+    ensures { λ r. ⌜ r ≡ headerAnswer (now (image .entry)) (n .0) ⌝ }
+{
+    let found = seek(image, v, n);
+    let lbn = found.header;
+    let result = found.outcome;
+    match result {
+        Outcome::Passed => Shown::Done(facts_of(block(image, lbn.0))),
+        Outcome::Refused(r) => Shown::Refused(r),
+    }
+}
+
 // What the header of a file number in use says.
 pub fn show_header(image: &[u8], n: FileNumber) -> Shown
     ensures { λ r. ⌜ r ≡ headerAnswer (now (image .entry)) (n .0) ⌝ }
 {
-    let found = seek(image, n);
-    match found {
-        Sought::At(lbn) => Shown::Done(facts_of(block(image, lbn.0))),
-        Sought::Refused(r) => Shown::Refused(r),
+    let opened = open(image);
+    let v = opened.volume;
+    let result = opened.outcome;
+    match result {
+        Outcome::Passed => show_header_on(image, v, n),
+        Outcome::Refused(r) => Shown::Refused(r),
     }
 }
 
-// Retrieval pointer p, from 0, of the header of a file number in use; ABSENT past the last.
-pub fn show_pointer(image: &[u8], n: FileNumber, p: u32) -> Pointed
+// Retrieval pointer p, from 0, of the header of a file number, on an opened volume; ABSENT past the last.
+fn show_pointer_on(image: &[u8], v: Volume, n: FileNumber, p: u32) -> Pointed
+    requires { ⌜ Open (now image) v ⌝ }
     ensures { λ r. ⌜ r ≡ pointerAnswer (now (image .entry)) (n .0) p ⌝ }
 {
-    let found = seek(image, n);
-    match found {
-        Sought::At(lbn) => {
+    let found = seek(image, v, n);
+    let lbn = found.header;
+    let result = found.outcome;
+    match result {
+        Outcome::Passed => {
             let h = block(image, lbn.0);
             if (pointer_number(h) as u32) <= p {
                 return Pointed::Refused(Refusal::Absent);
@@ -138,6 +172,19 @@ pub fn show_pointer(image: &[u8], n: FileNumber, p: u32) -> Pointed
             let at = first_pointer(h) + 4 * (p as usize);
             Pointed::Done(Lbn(pointer_lbn(h, at)), pointer_count(h, at))
         }
-        Sought::Refused(r) => Pointed::Refused(r),
+        Outcome::Refused(r) => Pointed::Refused(r),
+    }
+}
+
+// Retrieval pointer p, from 0, of the header of a file number in use; ABSENT past the last.
+pub fn show_pointer(image: &[u8], n: FileNumber, p: u32) -> Pointed
+    ensures { λ r. ⌜ r ≡ pointerAnswer (now (image .entry)) (n .0) p ⌝ }
+{
+    let opened = open(image);
+    let v = opened.volume;
+    let result = opened.outcome;
+    match result {
+        Outcome::Passed => show_pointer_on(image, v, n, p),
+        Outcome::Refused(r) => Pointed::Refused(r),
     }
 }

@@ -6,6 +6,8 @@ use Rattle.image.specs.Blocks.{block}
 use Rattle.answer.specs.declared.outcome.Outcome.the-variants.{Passed}
 use Rattle.volume.specs.Volume.{header}
 use Rattle.file.specs.Opening.{openFile}
+use Rattle.file.proofs.NumberLaws.{number-length}
+use Rattle.file.proofs.OpeningLaws.{opened}
 use Rattle.facts.specs.Files.{fileFacts}
 use Rattle.facts.proofs.FileLaws.{described-refused, described-done}
 use Rattle.facts.proofs.files.describe.Statement.{statement}
@@ -20,6 +22,13 @@ named c =
     let t = c .before in
     let o = t .before .before in
     c .block .ensures ∙ ap (block (now (o .before .before .args .image))) (o .open .ensures .1 (passed t) .2)
+
+facts-of-requires : tie.Need-facts-of-requires
+facts-of-requires c κs =
+    let t = c .before in
+    let a = t .before .before .before .before .args in
+    let o = opened (now (a .image)) (a .id) (passed t) in
+    rw (named c) (number-length (now (a .image)) (a .id .number) (o .found .first .0) (o .volume))
 
 returns : tie.Need-returns
 returns c =
@@ -39,4 +48,4 @@ returns-2 c =
 pub describe-spec : {M : Type 1} → statement M
 describe-spec =
     tie.close
-    (tie.spec (search needs) (search needs) (search needs) (search needs) (search needs) returns returns-2)
+    (tie.spec (search needs) (search needs) (search needs) facts-of-requires (search needs) returns returns-2)

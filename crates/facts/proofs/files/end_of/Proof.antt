@@ -12,9 +12,9 @@ last : (c : tie.After-long-at) → c .long-at .result ≡ fEfbk (now (c .before 
 unfolding fEfbk
 last c = c .long-at .ensures
 
-free : (c : tie.After-word-or-zero) → c .word-or-zero .result ≡ fFfby (now (c .before .before .before .before .args .h))
+free : (c : tie.After-word-at) → c .word-at .result ≡ fFfby (now (c .before .before .before .before .args .h))
 unfolding fFfby
-free c = c .word-or-zero .ensures
+free c = c .word-at .ensures
 
 returns : tie.Need-returns
 returns c =

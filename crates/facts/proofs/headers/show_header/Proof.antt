@@ -1,42 +1,29 @@
--- The header that was found is the one in the slot.
+-- The volume is opened first.
 use borrow.Author.Needs.{needs}
-use mathlib.Core.Path.{_≡_, sym, ap, _∙_}
+use mathlib.Core.Path.{_≡_, sym, _∙_}
 use denote.Ref.{now}
-use Rattle.image.specs.Blocks.{block}
-use Rattle.volume.specs.Volume.{header}
-use Rattle.facts.specs.declared.headers.Sought.the-variants.{At}
-use Rattle.facts.specs.Headers.{factsOf}
-use Rattle.facts.proofs.HeaderLaws.{Found, found, shown-refused, shown-done}
+use Rattle.answer.specs.declared.outcome.Outcome.the-variants.{Passed}
+use Rattle.volume.specs.Opening.{openVolume}
+use Rattle.facts.proofs.HeaderLaws.{find-closed, shown-refused}
 use Rattle.facts.proofs.headers.show_header.Statement.{statement}
 use Rattle.facts.proofs.headers.show_header.Tie as tie
 
-lies : (c : tie.After-found) → let a = c .before .before .before .before .args in Found (now (a .image)) (a .n .0) (At (c .found .given .0 .0))
-lies c =
-    let s = c .before .before in
-    let a = s .before .before .args in
-    found (now (a .image)) (a .n .0) _ (sym (c .found .given .1) ∙ s .seek .ensures)
+passed : (c : tie.After-enum-told) → openVolume (now (c .before .before .before .before .before .args .image)) ≡ Passed
+passed c = sym (c .before .before .before .open .ensures .0) ∙ c .enum-told .given .1
 
-named : (c : tie.After-block) → let a = c .before .before .before .before .before .before .args in now (c .block .result) ≡ header (now (a .image)) (a .n .0)
-unfolding header
-named c =
-    let p = c .before .before in
-    c .block .ensures ∙ ap (block (now (p .before .before .before .before .args .image))) (lies p .1)
+show-header-on-requires : tie.Need-show-header-on-requires
+show-header-on-requires c κs = (passed c, c .before .before .before .open .ensures .1 (passed c))
 
 returns : tie.Need-returns
-returns c =
-    let b = c .before in
-    let p = b .before .before in
-    let a = p .before .before .before .before .args in
-    shown-done (now (a .image)) (a .n .0) (lies p .0) _ (c .facts-of .ensures ∙ ap factsOf (named b))
+returns c = c .show-header-on .ensures
 
 returns-2 : tie.Need-returns-2
 returns-2 c =
     let r = c .before in
-    let s = r .before .before in
-    let a = s .before .before .args in
-    shown-refused (now (a .image)) (a .n .0) _ (found (now (a .image)) (a .n .0) _ (sym (r .found2 .given .1) ∙ s .seek .ensures))
+    let o = r .before .before .before in
+    let a = o .before .before .args in
+    shown-refused (now (a .image)) (a .n .0) _ (find-closed (now (a .image)) (a .n .0) _ (sym (o .open .ensures .0) ∙ r .result .given .1))
 
 pub show-header-spec : {M : Type 1} → statement M
 show-header-spec =
-    tie.close
-    (tie.spec (search needs) (search needs) (search needs) (search needs) (search needs) returns returns-2)
+    tie.close (tie.spec (search needs) (search needs) show-header-on-requires (search needs) returns returns-2)
