@@ -128,8 +128,8 @@ struct Audit<'a> {
     /// How many file numbers have a slot.
     numbers: u16,
     counts: Counts,
-    /// The IDs that entries name.
-    listed: HashSet<FileId>,
+    /// The IDs that entries name, in their order.
+    listed: Vec<FileId>,
     /// The directories that are walked, or are ahead.
     met: HashSet<FileId>,
     ahead: VecDeque<Found>,
@@ -153,7 +153,7 @@ impl<'a> Audit<'a> {
             type_dir: directory.0[3],
             numbers,
             counts: Counts::default(),
-            listed: HashSet::with_capacity(numbers.into()),
+            listed: Vec::with_capacity(numbers.into()),
             met: HashSet::from([master]),
             ahead: VecDeque::from([Found {
                 name: uic_text(0),
@@ -172,7 +172,7 @@ impl<'a> Audit<'a> {
             let entry = Entry::of(self.image, record);
             progress.step(1);
             self.counts.count(&entry);
-            self.listed.insert(entry.id);
+            self.listed.push(entry.id);
             if entry.is_directory(self.type_dir) && self.met.insert(entry.id) {
                 let name = directory_name(&directory, &entry);
                 self.ahead.push_back(Found { name, id: entry.id });
@@ -187,14 +187,15 @@ impl<'a> Audit<'a> {
         }
     }
 
-    /// Finds the files that no entry names.
+    /// Finds the files that no entry names, once all directories are walked.
     fn find_unlisted(&mut self) {
+        self.listed.sort_unstable();
         for number in 6..=self.numbers {
             let Ok(header) = ods1::header(self.image, number) else {
                 continue;
             };
             let id = FileId::of(number, header.sequence, 0);
-            if header.segment == 0 && !self.listed.contains(&id) {
+            if header.segment == 0 && self.listed.binary_search(&id).is_err() {
                 self.unlisted.push((id, header.name));
             }
         }
