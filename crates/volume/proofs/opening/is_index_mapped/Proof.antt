@@ -10,7 +10,7 @@ use lib.ListN.{length, getD}
 use borrow.Author.Tests.{not-true, not-false, eq-eqb}
 use Rattle.image.specs.First.{below}
 use Rattle.image.proofs.Below.{below-none}
-use Rattle.header.specs.Pointers.{pointers, runs, blocksOf}
+use Rattle.header.specs.Pointers.{runs, blocksOf}
 use Rattle.header.proofs.PointerLaws.{runs-none, runs-length, runs-le, runs-at}
 use Rattle.volume.specs.Opening.{indexAt, indexMapped}
 use Rattle.volume.proofs.OpeningLaws.{index-more, index-off, index-end}
