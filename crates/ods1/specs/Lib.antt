@@ -1,5 +1,2 @@
-pub mod Names
-pub mod Reading
+pub mod Arguments
 pub mod Sequence
-pub mod Judging
-pub mod Changing

@@ -1,83 +1,20 @@
 // Calls that change a volume: create, extend and delete.
 use answer::types::FileId;
 use answer::types::Name;
-use answer::words::put_done;
-use answer::words::put_refused;
+use change_words::put_created;
+use change_words::put_deleted;
+use change_words::put_extended;
 use create::create::create;
 use delete::deleting::delete;
 use extend::extend::extend;
-use update::answers::Created;
-use update::answers::Deleted;
-use update::answers::Extended;
 ghost use mathlib.Core.Path.{_≡_};
 ghost use lib.ListN.{length};
 ghost use Rattle.verdict.specs.Verdict.{headerMarks, blockMarks};
 ghost use Rattle.update.specs.Create.{createAnswer, createImage};
 ghost use Rattle.update.specs.Extend.{extendAnswer, extendImage};
 ghost use Rattle.update.specs.Delete.{deleteAnswer, deleteImage};
-ghost use Rattle.ods1.specs.Names.{ofWords};
-ghost use Rattle.ods1.specs.Reading.{idOf};
-ghost use Rattle.ods1.specs.Changing.{createdWords, extendedWords, deletedWords};
-
-// The words of what create answers.
-fn put_created(answer: &mut [u64; 12], created: Created)
-    ensures { λ _. ⌜ now (answer .exit) ≡ createdWords created ⌝ }
-{
-    match created {
-        Created::Done(id) => {
-            let number = id.number;
-            let sequence = id.sequence;
-            let volume = id.volume;
-            put_done(
-                answer,
-                [
-                    number as u64,
-                    sequence as u64,
-                    volume as u64,
-                    0,
-                    0,
-                    0,
-                    0,
-                    0,
-                    0,
-                    0,
-                ],
-            );
-        }
-        Created::Refused(r) => {
-            put_refused(answer, r);
-        }
-    }
-}
-
-// The words of what extend answers.
-fn put_extended(answer: &mut [u64; 12], extended: Extended)
-    ensures { λ _. ⌜ now (answer .exit) ≡ extendedWords extended ⌝ }
-{
-    match extended {
-        Extended::Done(lbn) => {
-            let first = lbn.0;
-            put_done(answer, [first as u64, 0, 0, 0, 0, 0, 0, 0, 0, 0]);
-        }
-        Extended::Refused(r) => {
-            put_refused(answer, r);
-        }
-    }
-}
-
-// The words of what delete answers.
-fn put_deleted(answer: &mut [u64; 12], deleted: Deleted)
-    ensures { λ _. ⌜ now (answer .exit) ≡ deletedWords deleted ⌝ }
-{
-    match deleted {
-        Deleted::Done => {
-            put_done(answer, [0, 0, 0, 0, 0, 0, 0, 0, 0, 0]);
-        }
-        Deleted::Refused(r) => {
-            put_refused(answer, r);
-        }
-    }
-}
+ghost use Rattle.change_words.specs.Words.{createdWords, extendedWords, deletedWords};
+ghost use Rattle.ods1.specs.Arguments.{idOf, ofWords};
 
 // A new file of no blocks, by its name, owner and protection: its ID.
 #[no_mangle]

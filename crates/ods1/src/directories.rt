@@ -1,16 +1,14 @@
 // Directories: looking a name up, and the next record.
 use answer::types::FileId;
 use answer::types::Name;
-use answer::words::put_done;
-use answer::words::put_refused;
-use directory::look_up::Found;
 use directory::look_up::look_up;
-use directory::next::Stepped;
 use directory::next::next_record;
+use read_words::put_found;
+use read_words::put_stepped;
 ghost use mathlib.Core.Path.{_≡_};
 ghost use Rattle.directory.specs.LookUp.{lookUp, nextRecord};
-ghost use Rattle.ods1.specs.Names.{ofWords};
-ghost use Rattle.ods1.specs.Reading.{idOf, foundWords, steppedWords};
+ghost use Rattle.read_words.specs.Words.{foundWords, steppedWords};
+ghost use Rattle.ods1.specs.Arguments.{idOf, ofWords};
 
 // The ID that a directory has under a name, as it is stored.
 #[no_mangle]
@@ -43,17 +41,7 @@ pub extern "C" fn ods1_look_up(
             version,
         },
     );
-    match found {
-        Found::Done(id) => {
-            let n = id.number;
-            let s = id.sequence;
-            let v = id.volume;
-            put_done(answer, [n as u64, s as u64, v as u64, 0, 0, 0, 0, 0, 0, 0]);
-        }
-        Found::Refused(r) => {
-            put_refused(answer, r);
-        }
-    }
+    put_found(answer, found);
 }
 
 // The next record of a directory that is not empty, from a place on, and the place to go on from.
@@ -77,28 +65,5 @@ pub extern "C" fn ods1_next_record(
         },
         place,
     );
-    match stepped {
-        Stepped::Done(e, next) => {
-            let i = e.id;
-            let n = e.name;
-            put_done(
-                answer,
-                [
-                    i.number as u64,
-                    i.sequence as u64,
-                    i.volume as u64,
-                    n.name1 as u64,
-                    n.name2 as u64,
-                    n.name3 as u64,
-                    n.typ as u64,
-                    n.version as u64,
-                    next as u64,
-                    0,
-                ],
-            );
-        }
-        Stepped::Refused(r) => {
-            put_refused(answer, r);
-        }
-    }
+    put_stepped(answer, stepped);
 }

@@ -1,22 +1,22 @@
 // What a volume, a header and a file say of themselves.
 use answer::types::FileId;
 use answer::types::FileNumber;
+use fact_words::put_described;
+use fact_words::put_labelled;
+use fact_words::put_laid;
+use fact_words::put_pointed;
+use fact_words::put_shown;
 use facts::files::describe;
 use facts::headers::show_header;
 use facts::headers::show_pointer;
 use facts::volumes::geometry_of;
 use facts::volumes::label_of;
-use words::put_described;
-use words::put_labelled;
-use words::put_laid;
-use words::put_pointed;
-use words::put_shown;
 ghost use mathlib.Core.Path.{_≡_};
 ghost use Rattle.facts.specs.Volumes.{geometryAnswer, labelAnswer};
 ghost use Rattle.facts.specs.Headers.{headerAnswer, pointerAnswer};
 ghost use Rattle.facts.specs.Files.{fileAnswer};
-ghost use Rattle.ods1.specs.Reading.{idOf};
-ghost use Rattle.words.specs.Words.{laidWords, labelledWords, shownWords, pointedWords, describedWords};
+ghost use Rattle.fact_words.specs.Words.{laidWords, labelledWords, shownWords, pointedWords, describedWords};
+ghost use Rattle.ods1.specs.Arguments.{idOf};
 
 // Where the parts of a volume lie.
 #[no_mangle]

@@ -1,16 +1,16 @@
 // Files by ID: how many blocks one has, and where its blocks lie.
 use answer::types::FileId;
 use answer::types::Vbn;
-use answer::words::put_done;
-use answer::words::put_refused;
-use file::mapping::Mapped;
 use file::mapping::map;
-use file::opening::OpenedFile;
 use file::opening::open_file;
+use read_words::put_block;
+use read_words::put_mapped;
+use read_words::put_opened_file;
 ghost use mathlib.Core.Path.{_≡_};
 ghost use Rattle.file.specs.Opening.{openAnswer};
 ghost use Rattle.file.specs.Mapping.{mapAnswer};
-ghost use Rattle.ods1.specs.Reading.{idOf, openedFileWords, mappedWords, blockWords};
+ghost use Rattle.read_words.specs.Words.{openedFileWords, mappedWords, blockWords};
+ghost use Rattle.ods1.specs.Arguments.{idOf};
 
 // How many blocks a file has.
 #[no_mangle]
@@ -31,14 +31,7 @@ pub extern "C" fn ods1_open_file(
             volume,
         },
     );
-    match opened {
-        OpenedFile::Done(count) => {
-            put_done(answer, [count as u64, 0, 0, 0, 0, 0, 0, 0, 0, 0]);
-        }
-        OpenedFile::Refused(r) => {
-            put_refused(answer, r);
-        }
-    }
+    put_opened_file(answer, opened);
 }
 
 // The LBN of a file's VBN.
@@ -62,15 +55,7 @@ pub extern "C" fn ods1_map(
         },
         Vbn(vbn),
     );
-    match mapped {
-        Mapped::Done(lbn) => {
-            let l = lbn.0;
-            put_done(answer, [l as u64, 0, 0, 0, 0, 0, 0, 0, 0, 0]);
-        }
-        Mapped::Refused(r) => {
-            put_refused(answer, r);
-        }
-    }
+    put_mapped(answer, mapped);
 }
 
 // Where the block of a file's VBN begins in the image, and how many bytes it has.
@@ -94,13 +79,5 @@ pub extern "C" fn ods1_block(
         },
         Vbn(vbn),
     );
-    match mapped {
-        Mapped::Done(lbn) => {
-            let l = lbn.0;
-            put_done(answer, [512 * (l as u64), 512, 0, 0, 0, 0, 0, 0, 0, 0]);
-        }
-        Mapped::Refused(r) => {
-            put_refused(answer, r);
-        }
-    }
+    put_block(answer, mapped);
 }

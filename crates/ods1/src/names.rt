@@ -1,16 +1,15 @@
 // Names as text, and text as names.
 use answer::types::Name;
-use answer::words::put_done;
-use answer::words::put_refused;
-use text::Named;
-use text::Written;
 use text::name_to_text;
 use text::text_to_name;
+use text_words::put_named;
+use text_words::put_written;
 ghost use mathlib.Core.Path.{_≡_};
 ghost use lib.ListN.{length};
 ghost use Rattle.text.specs.Text.{nameToText, textAfter};
 ghost use Rattle.text.specs.Parse.{textToName};
-ghost use Rattle.ods1.specs.Names.{ofWords, namedWords, writtenWords};
+ghost use Rattle.text_words.specs.Words.{namedWords, writtenWords};
+ghost use Rattle.ods1.specs.Arguments.{ofWords};
 
 // The five words of a text `NAME.TYP;V`.
 #[no_mangle]
@@ -18,33 +17,7 @@ pub extern "C" fn ods1_text_to_name(text: &[u8], answer: &mut [u64; 12])
     ensures { λ _. ⌜ now (answer .exit) ≡ namedWords (textToName (now (text .entry))) ⌝ }
 {
     let named = text_to_name(text);
-    match named {
-        Named::Done(n) => {
-            let a = n.name1;
-            let b = n.name2;
-            let c = n.name3;
-            let t = n.typ;
-            let v = n.version;
-            put_done(
-                answer,
-                [
-                    a as u64,
-                    b as u64,
-                    c as u64,
-                    t as u64,
-                    v as u64,
-                    0,
-                    0,
-                    0,
-                    0,
-                    0,
-                ],
-            );
-        }
-        Named::Refused(r) => {
-            put_refused(answer, r);
-        }
-    }
+    put_named(answer, named);
 }
 
 // The text of five words, into a buffer of at least 19 bytes, and its length.
@@ -71,12 +44,5 @@ pub extern "C" fn ods1_name_to_text(
         },
         text,
     );
-    match written {
-        Written::Done(n) => {
-            put_done(answer, [n as u64, 0, 0, 0, 0, 0, 0, 0, 0, 0]);
-        }
-        Written::Refused(r) => {
-            put_refused(answer, r);
-        }
-    }
+    put_written(answer, written);
 }

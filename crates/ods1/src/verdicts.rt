@@ -1,43 +1,9 @@
 // The verdict on a volume.
-use answer::words::put_done;
-use answer::words::put_refused;
-use verdict::judging::Judged;
 use verdict::judging::judge;
+use verdict_words::put_judged;
 ghost use mathlib.Core.Path.{_≡_};
 ghost use Rattle.verdict.specs.Verdict.{headerMarks, blockMarks, verdictAnswer};
-ghost use Rattle.ods1.specs.Judging.{judgedWords};
-
-// The words of what the verdict answers.
-fn put_judged(answer: &mut [u64; 12], judged: Judged)
-    ensures { λ _. ⌜ now (answer .exit) ≡ judgedWords judged ⌝ }
-{
-    match judged {
-        Judged::Done(c) => {
-            let n = c.blocks;
-            let claimed = c.claimed;
-            let free = c.free;
-            let used = c.headers;
-            put_done(
-                answer,
-                [
-                    n as u64,
-                    claimed as u64,
-                    free as u64,
-                    used as u64,
-                    0,
-                    0,
-                    0,
-                    0,
-                    0,
-                    0,
-                ],
-            );
-        }
-        Judged::Refused(r) => {
-            put_refused(answer, r);
-        }
-    }
-}
+ghost use Rattle.verdict_words.specs.Words.{judgedWords};
 
 // Whether a volume opens and is sound: the number of its blocks, and how many blocks are covered, bits free and file numbers in use.
 #[no_mangle]

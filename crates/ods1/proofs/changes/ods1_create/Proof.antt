@@ -1,6 +1,6 @@
 -- The words of what create answered, the image and the marks that it left.
 use mathlib.Core.Path.{ap, _∙_}
-use Rattle.ods1.specs.Changing.{createdWords}
+use Rattle.change_words.specs.Words.{createdWords}
 use borrow.Author.Needs.{needs}
 use Rattle.ods1.proofs.changes.ods1_create.Statement.{statement}
 use Rattle.ods1.proofs.changes.ods1_create.Tie as tie

@@ -1,6 +1,6 @@
 -- The words of what delete answered, the image and the marks that it left.
 use mathlib.Core.Path.{ap, _∙_}
-use Rattle.ods1.specs.Changing.{deletedWords}
+use Rattle.change_words.specs.Words.{deletedWords}
 use borrow.Author.Needs.{needs}
 use Rattle.ods1.proofs.changes.ods1_delete.Statement.{statement}
 use Rattle.ods1.proofs.changes.ods1_delete.Tie as tie

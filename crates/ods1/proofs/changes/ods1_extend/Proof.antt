@@ -1,6 +1,6 @@
 -- The words of what extend answered, the image and the marks that it left.
 use mathlib.Core.Path.{ap, _∙_}
-use Rattle.ods1.specs.Changing.{extendedWords}
+use Rattle.change_words.specs.Words.{extendedWords}
 use borrow.Author.Needs.{needs}
 use Rattle.ods1.proofs.changes.ods1_extend.Statement.{statement}
 use Rattle.ods1.proofs.changes.ods1_extend.Tie as tie

@@ -1,29 +1,12 @@
--- The words of the case that the call answered.
+-- The words of what the call answered.
 use borrow.Author.Needs.{needs}
-use mathlib.Core.Path.{ap, sym, _∙_}
-use Rattle.ods1.specs.Reading.{mappedWords}
+use mathlib.Core.Path.{ap, _∙_}
+use Rattle.read_words.specs.Words.{mappedWords}
 use Rattle.ods1.proofs.files.ods1_map.Statement.{statement}
 use Rattle.ods1.proofs.files.ods1_map.Tie as tie
 
 returns : tie.Need-returns
-returns c =
-    let m = c .before .before .before in
-    c .put-done .ensures ∙ ap mappedWords (sym (m .mapped .given .1) ∙ m .before .before .map .ensures)
-
-returns-2 : tie.Need-returns-2
-returns-2 c =
-    let m = c .before .before .before in
-    c .put-refused .ensures ∙ ap mappedWords (sym (m .mapped2 .given .1) ∙ m .before .before .map .ensures)
+returns c = c .put-mapped .ensures ∙ ap mappedWords (c .before .before .map .ensures)
 
 pub ods1-map-spec : {M : Type 1} → statement M
-ods1-map-spec =
-    tie.close
-    (tie.spec
-    (search needs)
-    (search needs)
-    (search needs)
-    (search needs)
-    (search needs)
-    (search needs)
-    returns
-    returns-2)
+ods1-map-spec = tie.close (tie.spec (search needs) (search needs) returns)

@@ -1,6 +1,6 @@
 -- The words of what the verdict answered, and the marks that it left.
 use mathlib.Core.Path.{ap, _∙_}
-use Rattle.ods1.specs.Judging.{judgedWords}
+use Rattle.verdict_words.specs.Words.{judgedWords}
 use borrow.Author.Needs.{needs}
 use Rattle.ods1.proofs.verdicts.ods1_judge.Statement.{statement}
 use Rattle.ods1.proofs.verdicts.ods1_judge.Tie as tie
