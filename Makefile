@@ -9,7 +9,7 @@ IMAGE = samples/volume-v.dsk
 PREFIX = /usr/local
 
 LIBRARY = target/staticlib/libods1.a
-TOOL = target/cargo/release/ods1
+TOOL = build/release/ods1
 CARGO = cargo --quiet
 
 # Where cargo's own installer puts it, if nothing else says where it is.
