@@ -22,8 +22,8 @@ log=$(mktemp) || exit 1
 trap 'rm -rf "$log" "$scratch"' EXIT
 
 # memory_folder SHM: makes a folder of its own on SHM, and prints its path, if SHM is a memory file
-# system with over 2 GB free, programs can be run from it, and whoever rt runs them as can reach it:
-# root runs them as nobody.
+# system with over 2 GB free, programs can be run from it, and the user that rt runs them as can reach
+# it: where rt is root, that is the user nobody.
 memory_folder() {
     local kind blocks size folder as=()
     read -r kind blocks size < <(stat -f -c '%T %a %S' "$1" 2>/dev/null)
