@@ -53,16 +53,17 @@ fn map_fault(h: &[u8], blocks: u32) -> u8
     if !filled {
         return 7;
     }
+    let shaped = (h[m + 6] == 1) & (h[m + 7] == 3) & (h[m + 1] == 0);
+    if shaped {
+        return link_fault(h, blocks);
+    }
     if h[m + 6] != 1 {
         return 8;
     }
     if h[m + 7] != 3 {
         return 9;
     }
-    if h[m + 1] != 0 {
-        return 10;
-    }
-    link_fault(h, blocks)
+    10
 }
 
 // The tests 11 and 12.

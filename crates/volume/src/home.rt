@@ -1,6 +1,7 @@
 // The home block: its fields, what makes a block one, and the search for it.
 use image::blocks::block;
 use image::sums::checksum;
+use image::sums::checksum_on;
 use image::words::word_at;
 ghost use mathlib.Core.Path.{_≡_};
 ghost use Prim.Native.Nat.{_+_, _*_, _^_, _≤_, _<_};
@@ -39,19 +40,18 @@ pub(crate) fn h_fmax(b: &[u8]) -> u16
     word_at(b, 6)
 }
 
-// Whether H.INDF is the label.
+// Whether H.INDF is the label. All of it is compared, which the compiler does at once.
 fn is_labelled(b: &[u8]) -> bool
     requires { ⌜ length (now b) ≡ 512 ⌝ }
     ensures { λ r. ⌜ r ≡ below 12 (labelAt (now (b .entry))) ⌝ }
 {
+    let mut same = true;
     let mut i: usize = 0;
     while i < 12 {
-        if b[496 + i] != LABEL[i] {
-            return false;
-        }
+        same = (b[496 + i] == LABEL[i]) & same;
         i += 1;
     }
-    true
+    same
 }
 
 // Whether H.IBSZ, H.IBLB, H.FMAX, H.SBCL and H.VLEV are those of a home block.
@@ -85,7 +85,7 @@ fn has_home_fields(b: &[u8]) -> bool
     true
 }
 
-// Whether a block is a home block. What is cheap to see is seen first.
+// Whether a block is a home block. What is cheap to see is seen first, and the words of H.CHK1 are added once.
 pub fn is_home(b: &[u8]) -> bool
     requires { ⌜ length (now b) ≡ 512 ⌝ }
     ensures { λ r. ⌜ r ≡ isHome (now (b .entry)) ⌝ }
@@ -102,7 +102,7 @@ pub fn is_home(b: &[u8]) -> bool
     if chk1 != word_at(b, 58) {
         return false;
     }
-    let sum = checksum(b, 255);
+    let sum = checksum_on(b, chk1, 29, 255);
     if sum != word_at(b, 510) {
         return false;
     }

@@ -32,22 +32,29 @@ filled c =
     let w = c .before .before .before .before .before .before in
     rw (← w .wide .ensures .0) (not-false _ (c .if3 .left))
 
-ctsz : (c : tie.Else4) → eqb (mCtsz (now (c .before .before .before .before .before .before .before .before .before .before .before .args .h))) 1 ≡ true
+-- The tests of M.CTSZ, M.LBSZ and M.ERVN are asked at once, so that the common case branches once.
+shaped : (c : tie.Then4) → (eqb (mCtsz (now (c .before .before .before .before .before .before .before .before .before .before .before .before .before .args .h))) 1 && eqb (mLbsz (now (c .before .before .before .before .before .before .before .before .before .before .before .before .before .args .h))) 3 && eqb (mErvn (now (c .before .before .before .before .before .before .before .before .before .before .before .before .before .args .h))) 0) ≡ true
+unfolding hMpof mapArea mCtsz mLbsz mErvn
+shaped c =
+    let w = c .before .before .before .before .before .before .before .before .before .before in
+    rw (← w .wide .ensures .0) (c .if4 .taken)
+
+unshaped : (c : tie.Else4) → (eqb (mCtsz (now (c .before .before .before .before .before .before .before .before .before .before .before .before .before .args .h))) 1 && eqb (mLbsz (now (c .before .before .before .before .before .before .before .before .before .before .before .before .before .args .h))) 3 && eqb (mErvn (now (c .before .before .before .before .before .before .before .before .before .before .before .before .before .args .h))) 0) ≡ false
+unfolding hMpof mapArea mCtsz mLbsz mErvn
+unshaped c =
+    let w = c .before .before .before .before .before .before .before .before .before .before in
+    rw (← w .wide .ensures .0) (c .if4 .left)
+
+ctsz : (c : tie.Else5) → eqb (mCtsz (now (c .before .before .before .before .before .before .before .before .before .before .before .before .before .before .before .args .h))) 1 ≡ true
 unfolding hMpof mapArea mCtsz
 ctsz c =
-    let w = c .before .before .before .before .before .before .before .before in
-    rw (← w .wide .ensures .0) (eq-eqb _ _ (c .if4 .left))
-
-lbsz : (c : tie.Else5) → eqb (mLbsz (now (c .before .before .before .before .before .before .before .before .before .before .before .before .before .args .h))) 3 ≡ true
-unfolding hMpof mapArea mLbsz
-lbsz c =
-    let w = c .before .before .before .before .before .before .before .before .before .before in
+    let w = c .before .before .before .before .before .before .before .before .before .before .before .before in
     rw (← w .wide .ensures .0) (eq-eqb _ _ (c .if5 .left))
 
-ervn : (c : tie.Else6) → eqb (mErvn (now (c .before .before .before .before .before .before .before .before .before .before .before .before .before .before .before .args .h))) 0 ≡ true
-unfolding hMpof mapArea mErvn
-ervn c =
-    let w = c .before .before .before .before .before .before .before .before .before .before .before .before in
+lbsz : (c : tie.Else6) → eqb (mLbsz (now (c .before .before .before .before .before .before .before .before .before .before .before .before .before .before .before .before .before .args .h))) 3 ≡ true
+unfolding hMpof mapArea mLbsz
+lbsz c =
+    let w = c .before .before .before .before .before .before .before .before .before .before .before .before .before .before in
     rw (← w .wide .ensures .0) (eq-eqb _ _ (c .if6 .left))
 
 returns : tie.Need-returns
@@ -66,72 +73,51 @@ returns-3 : tie.Need-returns-3
 unfolding mapTests firstUnmet
 returns-3 c = rw (room (c .before .before), unfilled c)
 
-returns-4 : tie.Need-returns-4
-unfolding mapTests firstUnmet mCtsz mapArea hMpof
-returns-4 c =
-    let f = c .before .before in
-    let w = f .before .before .before .before .before .before in
-    rw (room (f .before .before), filled f, ← w .wide .ensures .0, ne-eqb _ 1 (c .if4 .taken))
-
-returns-5 : tie.Need-returns-5
-unfolding mapTests firstUnmet mLbsz mapArea hMpof
-returns-5 c =
-    let z = c .before .before in
-    let f = z .before .before in
-    let w = f .before .before .before .before .before .before in
-    rw (room (f .before .before), filled f, ctsz z, ← w .wide .ensures .0, ne-eqb _ 3 (c .if5 .taken))
-
-returns-6 : tie.Need-returns-6
-unfolding mapTests firstUnmet mErvn mapArea hMpof
-returns-6 c =
-    let y = c .before .before in
-    let z = y .before .before in
-    let f = z .before .before in
-    let w = f .before .before .before .before .before .before in
-    rw (room (f .before .before), filled f, ctsz z, lbsz y, ← w .wide .ensures .0, ne-eqb _ 0 (c .if6 .taken))
-
 link-fault-requires : tie.Need-link-fault-requires
 link-fault-requires c κs =
-    let f = c .before .before .before .before .before .before in
-    let h = now (c .before .before .before .before .before .before .before .before .before .before .before .before .before .before .before .args .h) in
-    fits-inside h (c .before .before .before .before .before .before .before .before .before .before .before .before .before .before .before .pre) (leb-true (hMpof h + 5 + mMax h) 255 (room (f .before .before)))
+    let f = c .before .before .before .before in
+    let h = now (c .before .before .before .before .before .before .before .before .before .before .before .before .before .args .h) in
+    fits-inside h (c .before .before .before .before .before .before .before .before .before .before .before .before .before .pre) (leb-true (hMpof h + 5 + mMax h) 255 (room (f .before .before)))
     (leb-true (mUse h) (mMax h) (and-eq-true-iff (eqb (mUse h % 2) 0) (leb (mUse h) (mMax h)) .0 (filled f) .1))
+
+returns-4 : tie.Need-returns-4
+unfolding mapTests firstUnmet
+returns-4 c =
+    let t = c .before in
+    let f = t .before .before .before .before in
+    let h = now (t .before .before .before .before .before .before .before .before .before .before .before .before .before .args .h) in
+    let r = and-eq-true-iff (eqb (mCtsz h) 1 && eqb (mLbsz h) 3) (eqb (mErvn h) 0) .0 (shaped t) in
+    let l = and-eq-true-iff (eqb (mCtsz h) 1) (eqb (mLbsz h) 3) .0 (r .0) in
+    rw (room (f .before .before), filled f, l .0, l .1, r .1, c .link-fault .ensures)
+
+returns-5 : tie.Need-returns-5
+unfolding mapTests firstUnmet mCtsz mapArea hMpof
+returns-5 c =
+    let f = c .before .before .before .before .before .before in
+    let w = f .before .before .before .before .before .before in
+    rw (room (f .before .before), filled f, ← w .wide .ensures .0, ne-eqb _ 1 (c .if5 .taken))
+
+returns-6 : tie.Need-returns-6
+unfolding mapTests firstUnmet mLbsz mapArea hMpof
+returns-6 c =
+    let z = c .before .before in
+    let f = z .before .before .before .before .before .before in
+    let w = f .before .before .before .before .before .before in
+    rw (room (f .before .before), filled f, ctsz z, ← w .wide .ensures .0, ne-eqb _ 3 (c .if6 .taken))
 
 returns-7 : tie.Need-returns-7
 unfolding mapTests firstUnmet
 returns-7 c =
-    let x = c .before in
-    let y = x .before .before in
-    let z = y .before .before in
-    let f = z .before .before in
-    rw (room (f .before .before), filled f, ctsz z, lbsz y, ervn x, c .link-fault .ensures)
+    let z = c .before .before in
+    let e = z .before .before in
+    let f = e .before .before .before .before in
+    let ervn = rw (ctsz z, lbsz c) at (unshaped e) in
+    rw (room (f .before .before), filled f, ctsz z, lbsz c, ervn)
 
 pub map-fault-spec : {M : Type 1} → statement M
 map-fault-spec =
     tie.close
-    (tie.spec
-    (search needs)
-    (search needs)
-    (search needs)
-    returns
-    (search needs)
-    (search needs)
-    (search needs)
-    (search needs)
-    (search needs)
-    (search needs)
-    returns-2
-    (search needs)
-    (search needs)
-    returns-3
-    (search needs)
-    (search needs)
-    returns-4
-    (search needs)
-    (search needs)
-    returns-5
-    (search needs)
-    (search needs)
-    returns-6
-    link-fault-requires
-    returns-7)
+    (tie.spec (search needs) (search needs) (search needs) returns (search needs) (search needs) (search needs) (search needs) (search needs) (search needs) returns-2
+    (search needs) (search needs) returns-3
+    (search needs) (search needs) (search needs) (search needs) (search needs) (search needs) link-fault-requires returns-4
+    (search needs) (search needs) returns-5 (search needs) (search needs) returns-6 returns-7)
