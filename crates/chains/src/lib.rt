@@ -3,13 +3,13 @@ use answer::types::FileNumber;
 use answer::types::Lbn;
 use header::fields::m_efnu;
 use image::blocks::block;
-use volume::volume::Slot;
+use volume::volume::Places;
 use volume::volume::Volume;
-use volume::volume::slot_of;
+use volume::volume::slot_at;
 ghost use mathlib.Core.Path.{_≡_};
 ghost use mathlib.Core.Bool.{true};
-ghost use Rattle.volume.specs.Volume.{slot, isNumber};
-ghost use Rattle.volume.specs.Opening.{Open};
+ghost use Rattle.volume.specs.Volume.{slot};
+ghost use Rattle.volume.specs.Opening.{Recorded};
 ghost use Rattle.file.specs.Chains.{goodChain, IsFirst};
 ghost use Rattle.chains.specs.Members.{Lists};
 
@@ -20,21 +20,9 @@ pub struct Members {
     pub slots: [u32; 256],
 }
 
-// The LBN of the slot of a number that is in use and has one.
-fn slot_at(image: &[u8], v: Volume, n: FileNumber) -> Lbn
-    requires { ⌜ Open (now image) v × (isNumber (now image) (n .0) ≡ true) ⌝ }
-    ensures { λ r. ⌜ r .0 ≡ slot (now (image .entry)) (n .0) ⌝ }
-{
-    let place = slot_of(image, v, n);
-    match place {
-        Slot::At(lbn) => lbn,
-        Slot::Missing => Lbn(0),
-    }
-}
-
 // The chain of the file whose first header has number n and lies at this LBN, where each link of it is good.
-pub fn members_of(image: &[u8], v: Volume, n: FileNumber, lbn: Lbn) -> Members
-    requires { ⌜ Open (now image) v × IsFirst (now image) (n .0) × (goodChain (now image) (n .0) ≡ true) × (lbn .0 ≡ slot (now image) (n .0)) ⌝ }
+pub fn members_of(image: &[u8], v: Volume, places: &Places, n: FileNumber, lbn: Lbn) -> Members
+    requires { ⌜ Recorded (now image) v (now places) × IsFirst (now image) (n .0) × (goodChain (now image) (n .0) ≡ true) × (lbn .0 ≡ slot (now image) (n .0)) ⌝ }
     ensures { λ r. ⌜ Lists (now (image .entry)) (n .0) r ⌝ }
 {
     let mut numbers = [0u32; 256];
@@ -54,7 +42,7 @@ pub fn members_of(image: &[u8], v: Volume, n: FileNumber, lbn: Lbn) -> Members
                 slots,
             };
         }
-        let found = slot_at(image, v, FileNumber(next));
+        let found = slot_at(image, v, places, FileNumber(next));
         number = next;
         at = found.0;
     }

@@ -16,6 +16,7 @@ use marks::marks::raise_run;
 use slots::slots::SlotRun;
 use slots::slots::next_run;
 use slots::slots::slot_run;
+use volume::volume::Places;
 use volume::volume::Volume;
 use volume::volume::map_blocks;
 ghost use mathlib.Core.Path.{_≡_};
@@ -27,7 +28,7 @@ ghost use Rattle.answer.specs.declared.outcome.Outcome.the-variants.{Passed};
 ghost use Rattle.header.specs.Pointers.{Fits, blocksOf};
 ghost use Rattle.volume.specs.Home.{blocks};
 ghost use Rattle.volume.specs.Volume.{header, inUse};
-ghost use Rattle.volume.specs.Opening.{openVolume, Open};
+ghost use Rattle.volume.specs.Opening.{openVolume, Open, Recorded};
 ghost use Rattle.marks.specs.Marks.{tallied, raisedBy};
 ghost use Rattle.slots.specs.Slots.{Stands};
 ghost use Rattle.numbers.specs.Files.{files};
@@ -60,8 +61,8 @@ fn raise_number(image: &[u8], n: u32, used: bool, run: SlotRun, area: &mut [u8])
 }
 
 // The same for each header in use, in the order of their numbers.
-fn raise_headers(image: &[u8], v: Volume, area: &mut [u8])
-    requires { ⌜ Open (now image) v × (files (now image) ≡ Passed) × (blocks (now image) ≤ length (now area)) ⌝ }
+fn raise_headers(image: &[u8], v: Volume, places: &Places, area: &mut [u8])
+    requires { ⌜ Recorded (now image) v (now places) × (files (now image) ≡ Passed) × (blocks (now image) ≤ length (now area)) ⌝ }
     ensures { λ _. ⌜ now (area .exit) ≡ raisedBy (now (area .entry)) (covered (now (image .entry))) ⌝ }
 {
     let map = region(image, v.iblb, v.ibsz);
@@ -71,18 +72,18 @@ fn raise_headers(image: &[u8], v: Volume, area: &mut [u8])
     while n <= fmax {
         let used = bit_at(map, (n - 1) as usize) == 1;
         raise_number(image, n, used, run, area);
-        run = next_run(image, v, FileNumber(n), run);
+        run = next_run(image, v, places, FileNumber(n), run);
         n += 1;
     }
 }
 
 // Block mark j made the times that LBN j is covered, capped at 2.
-pub fn cover(image: &[u8], v: Volume, area: &mut [u8])
-    requires { ⌜ Open (now image) v × (files (now image) ≡ Passed) × (blocks (now image) ≤ length (now area)) ⌝ }
+pub fn cover(image: &[u8], v: Volume, places: &Places, area: &mut [u8])
+    requires { ⌜ Recorded (now image) v (now places) × (files (now image) ≡ Passed) × (blocks (now image) ≤ length (now area)) ⌝ }
     ensures { λ _. ⌜ now (area .exit) ≡ tallied (covered (now (image .entry))) 0 (blocks (now (image .entry))) (now (area .entry)) ⌝ }
 {
     clear_first(area, v.blocks as usize);
-    raise_headers(image, v, area);
+    raise_headers(image, v, places, area);
 }
 
 // TWICE, by the block marks.

@@ -9,6 +9,7 @@ use file::chains::header_of;
 use image::blocks::block;
 use marks::marks::lower_first;
 use volume::home::position;
+use volume::volume::Places;
 use volume::volume::Volume;
 ghost use mathlib.Core.Path.{_≡_};
 ghost use Prim.Native.Nat.{_*_, _≤_};
@@ -16,7 +17,7 @@ ghost use lib.ListN.{length};
 ghost use Rattle.answer.specs.declared.outcome.Outcome.the-variants.{Passed};
 ghost use Rattle.image.specs.First.{first};
 ghost use Rattle.volume.specs.Home.{blocks, homeIndex};
-ghost use Rattle.volume.specs.Opening.{Open};
+ghost use Rattle.volume.specs.Opening.{Recorded};
 ghost use Rattle.file.specs.Chains.{fileBlocks};
 ghost use Rattle.marks.specs.Marks.{tallied, raisedBy};
 ghost use Rattle.numbers.specs.Files.{files};
@@ -25,14 +26,14 @@ ghost use Rattle.covers.specs.Covered.{covered, twice};
 ghost use Rattle.covers.specs.Homes.{unmarked, badHome};
 
 // The marks of the blocks of file 3 raised, by one walk over its headers.
-fn raise_chain(image: &[u8], v: Volume, area: &mut [u8])
-    requires { ⌜ Open (now image) v × (files (now image) ≡ Passed) × (links (now image) ≡ Passed) × (blocks (now image) ≤ length (now area)) ⌝ }
+fn raise_chain(image: &[u8], v: Volume, places: &Places, area: &mut [u8])
+    requires { ⌜ Recorded (now image) v (now places) × (files (now image) ≡ Passed) × (links (now image) ≡ Passed) × (blocks (now image) ≤ length (now area)) ⌝ }
     ensures { λ _. ⌜ now (area .exit) ≡ raisedBy (now (area .entry)) (fileBlocks (now (image .entry)) 3) ⌝ }
 {
-    let mut h = header_of(image, v, FileNumber(3));
+    let mut h = header_of(image, v, places, FileNumber(3));
     loop {
         raise_header(h, area);
-        let link = follow(image, v, h);
+        let link = follow(image, v, places, h);
         match link {
             Link::End => {
                 return;
@@ -63,15 +64,15 @@ fn first_unmarked(area: &[u8], count: u32) -> u32
 }
 
 // BADHOME. No block is marked twice when it is asked, so the blocks of file 3 are told apart by a second mark, which is then taken away again.
-pub fn bad_home(image: &[u8], v: Volume, area: &mut [u8]) -> Outcome
-    requires { ⌜ Open (now image) v × (files (now image) ≡ Passed) × (links (now image) ≡ Passed) × (twice (now image) ≡ Passed) × (blocks (now image) ≤ length (now area)) × (now area ≡ tallied (covered (now image)) 0 (blocks (now image)) (now area)) ⌝ }
+pub fn bad_home(image: &[u8], v: Volume, places: &Places, area: &mut [u8]) -> Outcome
+    requires { ⌜ Recorded (now image) v (now places) × (files (now image) ≡ Passed) × (links (now image) ≡ Passed) × (twice (now image) ≡ Passed) × (blocks (now image) ≤ length (now area)) × (now area ≡ tallied (covered (now image)) 0 (blocks (now image)) (now area)) ⌝ }
     ensures { λ r. ⌜ (r ≡ badHome (now (image .entry))) × (now (area .exit) ≡ now (area .entry)) ⌝ }
 {
     let count = v.home / 256;
     if count == 0 {
         return Outcome::Passed;
     }
-    raise_chain(image, v, area);
+    raise_chain(image, v, places, area);
     let i = first_unmarked(area, count);
     lower_first(area, v.blocks as usize);
     if i == count {

@@ -3,17 +3,13 @@ use mathlib.Core.Path.{_≡_}
 use mathlib.Core.Bool.{true, false, and-false}
 use mathlib.Core.List.{List}
 use Prim.Native.Nat.{ℕ, _-_, _≤_, _<_}
-use native.Mathlib.Decide.{decLt}
 use native.Mathlib.Omega.{arith}
 use borrow.Author.Tests.{lt-leb, le-leb}
 use lib.Dec.{ltb}
 use Rattle.image.specs.First.{first}
 use Rattle.image.proofs.First.{first-is}
 use Rattle.header.specs.Fields.{hFseq}
-use Rattle.volume.specs.Volume.{slot, slots, hasSlot, header, inUse}
-use Rattle.slots.specs.declared.slots.SlotRun.{SlotRun}
-use Rattle.slots.specs.Slots.{Stands}
-use Rattle.slots.proofs.SlotLaws.{stands-at}
+use Rattle.volume.specs.Volume.{slots, hasSlot, header, inUse}
 use Rattle.update.specs.Create.{isSpare}
 
 module _ (image : List ℕ) where
@@ -35,11 +31,3 @@ module _ (image : List ℕ) where
   spare-none n e l h =
       first-is (isSpare image) n (e - n) e
       (record { low = h; high = omega arith; before = λ i a b. spare-past i (omega arith); here = λ z. absurd (omega arith) })
-
-  -- A walk over the slots that stands at a number with a slot has it at hand.
-  pub slot-stands : (n : ℕ) (run : SlotRun) → Stands image n run → n ≤ slots image → slot image n ≡ run .lbn .0
-  slot-stands n run s l = go (decLt 0 (run .left))
-    where
-      go : Dec (0 < run .left) → slot image n ≡ run .lbn .0
-      go (yes h) = stands-at image n run s h .1
-      go (no h) = absurd (omega (arith, s .none (omega arith)))

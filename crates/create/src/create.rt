@@ -11,14 +11,15 @@ use header::fields::h_fseq;
 use image::blocks::block;
 use maps::put_map_bit;
 use radix50::is_proper;
-use slots::slots::slot_run;
 use update::answers::Created;
 use verdict::judging::judge_volume;
+use volume::volume::Places;
 use volume::volume::Volume;
+use volume::volume::slot_at;
 ghost use mathlib.Core.Path.{_≡_};
 ghost use Prim.Native.Nat.{_+_, _*_, _≤_};
 ghost use lib.ListN.{length};
-ghost use Rattle.volume.specs.Opening.{Open};
+ghost use Rattle.volume.specs.Opening.{Recorded};
 ghost use Rattle.verdict.specs.Verdict.{afterwards, headerMarks, blockMarks};
 ghost use Rattle.edits.specs.Fresh.{freshHeader};
 ghost use Rattle.update.specs.Writes.{putBlock};
@@ -42,25 +43,40 @@ fn put_header(image: &mut [u8], lbn: Lbn, id: FileId, owner: u16, protection: u1
 }
 
 // A new file under the number n: its header in the slot of n, and then the index bit of n.
-fn put_file(image: &mut [u8], v: Volume, n: u32, name: Name, owner: u16, protection: u16) -> FileId
-    requires { ⌜ Open (now image) v × (n ≡ freeNumber (now image)) × (n ≤ v .fmax) ⌝ }
+fn put_file(
+    image: &mut [u8],
+    v: Volume,
+    places: &Places,
+    n: u32,
+    name: Name,
+    owner: u16,
+    protection: u16,
+) -> FileId
+    requires { ⌜ Recorded (now image) v (now places) × (n ≡ freeNumber (now image)) × (n ≤ v .fmax) ⌝ }
     ensures { λ r. ⌜ (r ≡ newId (now (image .entry))) × (now (image .exit) ≡ withFile (now (image .entry)) name owner protection) ⌝ }
 {
-    let run = slot_run(image, v, FileNumber(n));
-    let word = h_fseq(block(image, run.lbn.0));
+    let lbn = slot_at(image, v, places, FileNumber(n));
+    let word = h_fseq(block(image, lbn.0));
     let id = FileId {
         number: n as u16,
         sequence: word + 1,
         volume: 0,
     };
-    put_header(image, run.lbn, id, owner, protection, name);
+    put_header(image, lbn, id, owner, protection, name);
     put_map_bit(image, v.iblb, v.ibsz, n - 1, 1);
     id
 }
 
 // Create on a volume that is judged already: NAME, NONUMBER, and then the file. It asks no more of the image than that it opens.
-pub fn create_on(image: &mut [u8], v: Volume, name: Name, owner: u16, protection: u16) -> Created
-    requires { ⌜ Open (now image) v ⌝ }
+pub fn create_on(
+    image: &mut [u8],
+    v: Volume,
+    places: &Places,
+    name: Name,
+    owner: u16,
+    protection: u16,
+) -> Created
+    requires { ⌜ Recorded (now image) v (now places) ⌝ }
     ensures { λ r. ⌜ (r ≡ created (createTests (now (image .entry)) name) (newId (now (image .entry))))
         × (now (image .exit) ≡ afterwards (createTests (now (image .entry)) name) (now (image .entry)) (withFile (now (image .entry)) name owner protection)) ⌝ }
 {
@@ -68,11 +84,11 @@ pub fn create_on(image: &mut [u8], v: Volume, name: Name, owner: u16, protection
     if !good {
         return Created::Refused(Refusal::Name);
     }
-    let n = free_number(image, v);
+    let n = free_number(image, v, places);
     if v.fmax < n {
         return Created::Refused(Refusal::Nonumber);
     }
-    Created::Done(put_file(image, v, n, name, owner, protection))
+    Created::Done(put_file(image, v, places, n, name, owner, protection))
 }
 
 // Create. The marks are those of the image before it.
@@ -89,10 +105,11 @@ pub fn create(
         × (now (area .exit) ≡ blockMarks (now (image .entry)) (now (area .entry)) (now (headers .entry)))
         × (now (headers .exit) ≡ headerMarks (now (image .entry)) (now (area .entry)) (now (headers .entry))) ⌝ }
 {
-    let j = judge_volume(image, area, headers);
+    let mut places = [0u32; 256];
+    let j = judge_volume(image, &mut places, area, headers);
     let outcome = j.outcome;
     match outcome {
-        Outcome::Passed => create_on(image, j.volume, name, owner, protection),
+        Outcome::Passed => create_on(image, j.volume, &places, name, owner, protection),
         Outcome::Refused(r) => Created::Refused(r),
     }
 }

@@ -7,10 +7,11 @@ use image::blocks::region;
 use slots::slots::SlotRun;
 use slots::slots::next_run;
 use slots::slots::slot_run;
+use volume::volume::Places;
 use volume::volume::Volume;
 ghost use mathlib.Core.Path.{_≡_};
 ghost use Rattle.volume.specs.Volume.{inUse};
-ghost use Rattle.volume.specs.Opening.{Open};
+ghost use Rattle.volume.specs.Opening.{Recorded};
 ghost use Rattle.slots.specs.Slots.{Stands};
 ghost use Rattle.update.specs.Create.{isSpare, freeNumber};
 
@@ -29,8 +30,8 @@ fn is_spare(image: &[u8], n: u32, used: bool, run: SlotRun) -> bool
 }
 
 // The lowest spare number from 6 on; H.FMAX + 1 where there is none. Past the last slot no number is spare, so the search ends there.
-pub fn free_number(image: &[u8], v: Volume) -> u32
-    requires { ⌜ Open (now image) v ⌝ }
+pub fn free_number(image: &[u8], v: Volume, places: &Places) -> u32
+    requires { ⌜ Recorded (now image) v (now places) ⌝ }
     ensures { λ r. ⌜ r ≡ freeNumber (now (image .entry)) ⌝ }
 {
     let map = region(image, v.iblb, v.ibsz);
@@ -44,7 +45,7 @@ pub fn free_number(image: &[u8], v: Volume) -> u32
         if is_spare(image, n, used, run) {
             return n;
         }
-        run = next_run(image, v, FileNumber(n), run);
+        run = next_run(image, v, places, FileNumber(n), run);
         n += 1;
     }
     n

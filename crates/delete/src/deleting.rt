@@ -11,6 +11,7 @@ use chains::members_of;
 use file::opening::open_on;
 use update::answers::Deleted;
 use verdict::judging::judge_volume;
+use volume::volume::Places;
 use volume::volume::Volume;
 use volume::volume::map_blocks;
 ghost use mathlib.Core.Path.{_≡_};
@@ -18,7 +19,7 @@ ghost use mathlib.Core.Bool.{true};
 ghost use Prim.Native.Nat.{_≤_};
 ghost use lib.ListN.{length};
 ghost use Rattle.volume.specs.Volume.{slot};
-ghost use Rattle.volume.specs.Opening.{Open};
+ghost use Rattle.volume.specs.Opening.{Recorded};
 ghost use Rattle.file.specs.Chains.{chainOf, goodChain, IsFirst};
 ghost use Rattle.verdict.specs.Verdict.{afterwards, blockMarks, headerMarks};
 ghost use Rattle.sound.specs.Sound.{Sound};
@@ -26,11 +27,11 @@ ghost use Rattle.update.specs.Delete.{deleted, deleteAnswer, withoutNumbers, de
 
 // The chain of the file whose first header has number n and lies at this LBN given up: its index bits, its blocks, its slots. The slots come last, for
 // the pointers stand in them.
-fn delete_chain(image: &mut [u8], v: Volume, n: FileNumber, lbn: Lbn)
-    requires { ⌜ Open (now image) v × Sound (now image) × IsFirst (now image) (n .0) × (goodChain (now image) (n .0) ≡ true) × (6 ≤ n .0) × (lbn .0 ≡ slot (now image) (n .0)) ⌝ }
+fn delete_chain(image: &mut [u8], v: Volume, places: &Places, n: FileNumber, lbn: Lbn)
+    requires { ⌜ Recorded (now image) v (now places) × Sound (now image) × IsFirst (now image) (n .0) × (goodChain (now image) (n .0) ≡ true) × (6 ≤ n .0) × (lbn .0 ≡ slot (now image) (n .0)) ⌝ }
     ensures { λ _. ⌜ now (image .exit) ≡ withoutNumbers (now (image .entry)) (chainOf (now (image .entry)) (n .0)) ⌝ }
 {
-    let m = members_of(image, v, n, lbn);
+    let m = members_of(image, v, places, n, lbn);
     let numbers = m.numbers;
     let slots = m.slots;
     let q = map_blocks(v.blocks);
@@ -40,12 +41,12 @@ fn delete_chain(image: &mut [u8], v: Volume, n: FileNumber, lbn: Lbn)
 }
 
 // Deletes a file on a volume that opens and is sound.
-pub fn delete_on(image: &mut [u8], v: Volume, id: FileId) -> Deleted
-    requires { ⌜ Open (now image) v × Sound (now image) ⌝ }
+pub fn delete_on(image: &mut [u8], v: Volume, places: &Places, id: FileId) -> Deleted
+    requires { ⌜ Recorded (now image) v (now places) × Sound (now image) ⌝ }
     ensures { λ r. ⌜ (r ≡ deleted (deleteTests (now (image .entry)) id))
         × (now (image .exit) ≡ afterwards (deleteTests (now (image .entry)) id) (now (image .entry)) (withoutNumbers (now (image .entry)) (chainOf (now (image .entry)) (id .number)))) ⌝ }
 {
-    let file = open_on(image, v, id);
+    let file = open_on(image, v, places, id);
     let result = file.outcome;
     match result {
         Outcome::Passed => {
@@ -53,7 +54,7 @@ pub fn delete_on(image: &mut [u8], v: Volume, id: FileId) -> Deleted
             if n <= 5 {
                 return Deleted::Refused(Refusal::Known);
             }
-            delete_chain(image, v, FileNumber(n), file.header);
+            delete_chain(image, v, places, FileNumber(n), file.header);
             Deleted::Done
         }
         Outcome::Refused(r) => Deleted::Refused(r),
@@ -67,10 +68,11 @@ pub fn delete(image: &mut [u8], id: FileId, area: &mut [u8], headers: &mut [u8])
         × (now (area .exit) ≡ blockMarks (now (image .entry)) (now (area .entry)) (now (headers .entry)))
         × (now (headers .exit) ≡ headerMarks (now (image .entry)) (now (area .entry)) (now (headers .entry))) ⌝ }
 {
-    let j = judge_volume(image, area, headers);
+    let mut places = [0u32; 256];
+    let j = judge_volume(image, &mut places, area, headers);
     let result = j.outcome;
     match result {
-        Outcome::Passed => delete_on(image, j.volume, id),
+        Outcome::Passed => delete_on(image, j.volume, &places, id),
         Outcome::Refused(r) => Deleted::Refused(r),
     }
 }

@@ -14,7 +14,7 @@ use Rattle.answer.specs.declared.refusal.Refusal.the-variants as refusal
 use Rattle.answer.specs.declared.outcome.Outcome.the-variants.{Passed, Refused}
 use Rattle.answer.specs.Outcome.{unless, _then_}
 use Rattle.radix50.specs.Names.{proper}
-use Rattle.volume.specs.Volume.{volumeOf}
+use Rattle.volume.specs.Volume.{volumeOf, placesOf}
 use Rattle.volume.specs.declared.volume.Volume.{Volume}
 use Rattle.volume.proofs.VolumeLaws.{opens}
 use Rattle.file.specs.Chains.{fileBlocks}
@@ -30,13 +30,14 @@ use Rattle.directory.specs.declared.next.Stepped.the-variants as stepped
 use Rattle.directory.proofs.SearchLaws.{search-all}
 
 -- What opening a file gives to those who read it: the file is open, and each of its blocks lies in the image.
-pub opened-file : (image : List ℕ) (v : Volume) (id : FileId) → openFile image id ≡ Passed → v ≡ volumeOf image → FileOpen image v (id .number)
-opened-file image v id e is =
+pub opened-file : (image : List ℕ) (v : Volume) (at : List ℕ) (id : FileId) → openFile image id ≡ Passed → v ≡ volumeOf image → at ≡ placesOf image
+    → FileOpen image v at (id .number)
+opened-file image v at id e is lie =
     let o = opened image id e in
-    ((o .volume, is), o .found .first, o .chain)
+    ((o .volume, is, lie), o .found .first, o .chain)
 
-pub block-inside : (image : List ℕ) (v : Volume) (n : ℕ) → FileOpen image v n → (i : ℕ) → i < length (fileBlocks image n) → 512 * getD (fileBlocks image n) i 0 + 512 ≤ length image
-block-inside image v n (o, first, good) i l = omega (arith, opens image (o .0) .size, file-below image n first good i l)
+pub block-inside : (image : List ℕ) (v : Volume) (at : List ℕ) (n : ℕ) → FileOpen image v at n → (i : ℕ) → i < length (fileBlocks image n) → 512 * getD (fileBlocks image n) i 0 + 512 ≤ length image
+block-inside image v at n (o, first, good) i l = omega (arith, opens image (o .0) .size, file-below image n first good i l)
 
 -- The directory's records lie in its blocks.
 pub records-count : (image : List ℕ) (n : ℕ) → recordCount image n ≡ 32 * length (fileBlocks image n)

@@ -8,7 +8,7 @@ use Rattle.image.specs.Blocks.{block}
 use Rattle.image.specs.First.{first}
 use Rattle.header.specs.Pointers.{pointerLbn, pointerCount, pointersAt, pointers}
 use Rattle.volume.specs.Home.{blocks}
-use Rattle.volume.specs.Opening.{Open}
+use Rattle.volume.specs.Opening.{Recorded}
 use Rattle.volume.specs.declared.volume.Volume.{Volume}
 use Rattle.file.specs.Chains.{goodChain, IsFirst, fileBlocks}
 use Rattle.records.specs.Records.{recordIn, entryOf, isWanted}
@@ -36,5 +36,5 @@ abbrev pub Inside : List ℕ → List ℕ → Type 0
 Inside image h = (p : ℕ) → p < pointers h → pointerLbn h (pointersAt h + 4 * p) + pointerCount h (pointersAt h + 4 * p) ≤ blocks image
 
 -- 01, The work and its edge: "Every call on a volume opens it first". The image opens as v, and so does the file whose first header has number n.
-abbrev pub FileOpen : List ℕ → Volume → ℕ → Type 0
-FileOpen image v n = Open image v × IsFirst image n × (goodChain image n ≡ true)
+abbrev pub FileOpen : List ℕ → Volume → List ℕ → ℕ → Type 0
+FileOpen image v at n = Recorded image v at × IsFirst image n × (goodChain image n ≡ true)

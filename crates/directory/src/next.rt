@@ -10,10 +10,11 @@ use answer::types::Lbn;
 use file::opening::open;
 use records::Entry;
 use records::Wanted;
+use volume::volume::Places;
 use volume::volume::Volume;
 ghost use mathlib.Core.Path.{_≡_};
 ghost use Rattle.answer.specs.declared.outcome.Outcome.the-variants.{Passed};
-ghost use Rattle.volume.specs.Volume.{slot, volumeOf};
+ghost use Rattle.volume.specs.Volume.{slot, volumeOf, placesOf};
 ghost use Rattle.file.specs.Opening.{openFile};
 ghost use Rattle.directory.specs.Search.{recordCount};
 ghost use Rattle.directory.specs.LookUp.{nextRecord};
@@ -26,19 +27,27 @@ pub enum Stepped {
 }
 
 // A step in a directory that opens, of so many records: ABSENT.
-fn next_opened(image: &[u8], v: Volume, id: FileId, lbn: Lbn, count: u32, place: u32) -> Stepped
-    requires { ⌜ (openFile (now image) id ≡ Passed) × (v ≡ volumeOf (now image)) × (count ≡ recordCount (now image) (id .number)) × (lbn .0 ≡ slot (now image) (id .number)) ⌝ }
+fn next_opened(
+    image: &[u8],
+    v: Volume,
+    places: &Places,
+    id: FileId,
+    lbn: Lbn,
+    count: u32,
+    place: u32,
+) -> Stepped
+    requires { ⌜ (openFile (now image) id ≡ Passed) × (v ≡ volumeOf (now image)) × (count ≡ recordCount (now image) (id .number)) × (lbn .0 ≡ slot (now image) (id .number)) × (now places ≡ placesOf (now image)) ⌝ }
     ensures { λ r. ⌜ r ≡ nextRecord (now (image .entry)) id place ⌝ }
 {
     if count <= place {
         return Stepped::Refused(Refusal::Absent);
     }
-    let n = id.number as u32;
-    let r = search_file(image, v, FileNumber(n), lbn, place, count, Wanted::Any);
+    let n = FileNumber(id.number as u32);
+    let r = search_file(image, v, places, n, lbn, place, count, Wanted::Any);
     if count <= r {
         return Stepped::Refused(Refusal::Absent);
     }
-    let e = entry_of_file(image, v, FileNumber(n), lbn, r);
+    let e = entry_of_file(image, v, places, n, lbn, r);
     Stepped::Done(e, r + 1)
 }
 
@@ -46,12 +55,14 @@ fn next_opened(image: &[u8], v: Volume, id: FileId, lbn: Lbn, count: u32, place:
 pub fn next_record(image: &[u8], id: FileId, place: u32) -> Stepped
     ensures { λ r. ⌜ r ≡ nextRecord (now (image .entry)) id place ⌝ }
 {
-    let file = open(image, id);
+    let mut places = [0u32; 256];
+    let file = open(image, &mut places, id);
     let outcome = file.outcome;
     match outcome {
         Outcome::Passed => next_opened(
             image,
             file.volume,
+            &places,
             id,
             file.header,
             record_count(file.blocks),

@@ -17,6 +17,7 @@ use records::Entry;
 use records::Wanted;
 use records::entry_at;
 use records::first_in;
+use volume::volume::Places;
 use volume::volume::Volume;
 ghost use mathlib.Core.Path.{_≡_};
 ghost use Prim.Native.Nat.{_+_, _*_, min, _≤_, _<_};
@@ -76,13 +77,14 @@ fn search_header(image: &[u8], h: &[u8], from: u32, to: u32, w: Wanted) -> u32
 pub(crate) fn search_file(
     image: &[u8],
     v: Volume,
+    places: &Places,
     n: FileNumber,
     lbn: Lbn,
     from: u32,
     to: u32,
     w: Wanted,
 ) -> u32
-    requires { ⌜ FileOpen (now image) v (n .0) × (from ≤ to) × (lbn .0 ≡ slot (now image) (n .0)) ⌝ }
+    requires { ⌜ FileOpen (now image) v (now places) (n .0) × (from ≤ to) × (lbn .0 ≡ slot (now image) (n .0)) ⌝ }
     ensures { λ r. ⌜ (r ≡ searchIn (now (image .entry)) (fileBlocks (now (image .entry)) (n .0)) w from to) × (from ≤ r) × (r ≤ to) ⌝ }
 {
     let mut h = block(image, lbn.0);
@@ -100,7 +102,7 @@ pub(crate) fn search_file(
         if next == 0 {
             return place;
         }
-        h = header_of(image, v, FileNumber(next));
+        h = header_of(image, v, places, FileNumber(next));
     }
 }
 
@@ -113,11 +115,18 @@ pub(crate) fn record_count(blocks: u32) -> u32
 }
 
 // The entry in record r of the file whose first header has a number and lies at an LBN.
-pub(crate) fn entry_of_file(image: &[u8], v: Volume, n: FileNumber, lbn: Lbn, r: u32) -> Entry
-    requires { ⌜ FileOpen (now image) v (n .0) × (r < 32 * length (fileBlocks (now image) (n .0))) × (lbn .0 ≡ slot (now image) (n .0)) ⌝ }
+pub(crate) fn entry_of_file(
+    image: &[u8],
+    v: Volume,
+    places: &Places,
+    n: FileNumber,
+    lbn: Lbn,
+    r: u32,
+) -> Entry
+    requires { ⌜ FileOpen (now image) v (now places) (n .0) × (r < 32 * length (fileBlocks (now image) (n .0))) × (lbn .0 ≡ slot (now image) (n .0)) ⌝ }
     ensures { λ e. ⌜ e ≡ entryOfFile (now (image .entry)) (n .0) r ⌝ }
 {
-    let place = lbn_at(image, v, n, lbn, r / 32);
+    let place = lbn_at(image, v, places, n, lbn, r / 32);
     let b = block(image, place.0);
     entry_at(b, r % 32)
 }

@@ -6,21 +6,22 @@ use answer::outcome::Outcome;
 use answer::types::FileId;
 use update::answers::Extended;
 use verdict::judging::judge_volume;
+use volume::volume::Places;
 use volume::volume::Volume;
 ghost use mathlib.Core.Path.{_≡_};
 ghost use lib.ListN.{length};
-ghost use Rattle.volume.specs.Opening.{Open};
+ghost use Rattle.volume.specs.Opening.{Recorded};
 ghost use Rattle.verdict.specs.Verdict.{afterwards, headerMarks, blockMarks};
 ghost use Rattle.sound.specs.Sound.{Sound};
 ghost use Rattle.update.specs.Extend.{lastNumber, runStart, extended, extendAnswer, withBlocks, extendImage, extendTests};
 
 // Extend on a volume that is judged.
-pub fn extend_on(image: &mut [u8], v: Volume, id: FileId, c: u32) -> Extended
-    requires { ⌜ Open (now image) v × Sound (now image) ⌝ }
+pub fn extend_on(image: &mut [u8], v: Volume, places: &Places, id: FileId, c: u32) -> Extended
+    requires { ⌜ Recorded (now image) v (now places) × Sound (now image) ⌝ }
     ensures { λ r. ⌜ (r ≡ extended (extendTests (now (image .entry)) id c) (runStart (now (image .entry)) c))
         × (now (image .exit) ≡ afterwards (extendTests (now (image .entry)) id c) (now (image .entry)) (withBlocks (now (image .entry)) (lastNumber (now (image .entry)) (id .number)) (runStart (now (image .entry)) c) c)) ⌝ }
 {
-    let plan = plan_on(image, v, id, c);
+    let plan = plan_on(image, v, places, id, c);
     match plan {
         Plan::To(last, lbn) => {
             take(image, v, last, lbn, c);
@@ -37,11 +38,12 @@ pub fn extend(image: &mut [u8], id: FileId, c: u32, area: &mut [u8], headers: &m
         × (now (area .exit) ≡ blockMarks (now (image .entry)) (now (area .entry)) (now (headers .entry)))
         × (now (headers .exit) ≡ headerMarks (now (image .entry)) (now (area .entry)) (now (headers .entry))) ⌝ }
 {
-    let judged = judge_volume(image, area, headers);
+    let mut places = [0u32; 256];
+    let judged = judge_volume(image, &mut places, area, headers);
     let result = judged.outcome;
     let v = judged.volume;
     match result {
-        Outcome::Passed => extend_on(image, v, id, c),
+        Outcome::Passed => extend_on(image, v, &places, id, c),
         Outcome::Refused(r) => Extended::Refused(r),
     }
 }

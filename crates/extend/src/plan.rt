@@ -12,6 +12,7 @@ use image::blocks::region;
 use image::words::byte_or_zero;
 use runs::Start;
 use runs::lowest_run;
+use volume::volume::Places;
 use volume::volume::Volume;
 use volume::volume::map_blocks;
 ghost use mathlib.Core.Path.{_≡_};
@@ -21,7 +22,7 @@ ghost use Rattle.image.specs.Blocks.{block};
 ghost use Rattle.answer.specs.declared.refusal.Refusal.the-variants as refusal;
 ghost use Rattle.answer.specs.Outcome.{unless, _then_};
 ghost use Rattle.volume.specs.Volume.{slot};
-ghost use Rattle.volume.specs.Opening.{Open};
+ghost use Rattle.volume.specs.Opening.{Open, Recorded};
 ghost use Rattle.file.specs.Chains.{goodChain, IsFirst};
 ghost use Rattle.update.specs.Extend.{isKnownNumber, isFixed, isCount, hasRoom, lastNumber, runStart, hasRun, extendTests};
 ghost use Rattle.extend.specs.Tests.{planned};
@@ -63,11 +64,11 @@ fn has_room(h: &[u8]) -> bool
 }
 
 // The LBN of the last header of the file whose first header has number n and lies at this LBN.
-fn last_slot(image: &[u8], v: Volume, n: FileNumber, lbn: Lbn) -> Lbn
-    requires { ⌜ Open (now image) v × IsFirst (now image) (n .0) × (goodChain (now image) (n .0) ≡ true) × (lbn .0 ≡ slot (now image) (n .0)) ⌝ }
+fn last_slot(image: &[u8], v: Volume, places: &Places, n: FileNumber, lbn: Lbn) -> Lbn
+    requires { ⌜ Recorded (now image) v (now places) × IsFirst (now image) (n .0) × (goodChain (now image) (n .0) ≡ true) × (lbn .0 ≡ slot (now image) (n .0)) ⌝ }
     ensures { λ r. ⌜ r .0 ≡ slot (now (image .entry)) (lastNumber (now (image .entry)) (n .0)) ⌝ }
 {
-    let chain = members_of(image, v, n, lbn);
+    let chain = members_of(image, v, places, n, lbn);
     let slots = chain.slots;
     Lbn(slots[chain.count - 1])
 }
@@ -90,11 +91,11 @@ fn find_run(image: &[u8], v: Volume, last: Lbn, c: u32) -> Plan
 }
 
 // The tests in their order, on a volume that is judged.
-pub fn plan_on(image: &[u8], v: Volume, id: FileId, c: u32) -> Plan
-    requires { ⌜ Open (now image) v ⌝ }
+pub fn plan_on(image: &[u8], v: Volume, places: &Places, id: FileId, c: u32) -> Plan
+    requires { ⌜ Recorded (now image) v (now places) ⌝ }
     ensures { λ r. ⌜ r ≡ planned (extendTests (now (image .entry)) id c) (slot (now (image .entry)) (lastNumber (now (image .entry)) (id .number))) (runStart (now (image .entry)) c) ⌝ }
 {
-    let file = open_on(image, v, id);
+    let file = open_on(image, v, places, id);
     let opened = file.outcome;
     let lbn = file.header;
     match opened {
@@ -102,7 +103,7 @@ pub fn plan_on(image: &[u8], v: Volume, id: FileId, c: u32) -> Plan
             let admitted = admit(block(image, lbn.0), id.number, c);
             match admitted {
                 Outcome::Passed => {
-                    let last = last_slot(image, v, FileNumber(id.number as u32), lbn);
+                    let last = last_slot(image, v, places, FileNumber(id.number as u32), lbn);
                     find_run(image, v, last, c)
                 }
                 Outcome::Refused(r) => Plan::Refused(r),

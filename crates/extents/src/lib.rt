@@ -25,7 +25,8 @@ pub enum Extent {
 pub fn extent_from(image: &[u8], id: FileId, vbn: Vbn) -> Extent
     ensures { λ r. ⌜ r ≡ extentAnswer (now (image .entry)) id (vbn .0) ⌝ }
 {
-    let file = open(image, id);
+    let mut places = [0u32; 256];
+    let file = open(image, &mut places, id);
     let result = file.outcome;
     match result {
         Outcome::Passed => {
@@ -39,6 +40,7 @@ pub fn extent_from(image: &[u8], id: FileId, vbn: Vbn) -> Extent
             let row = row_of(
                 image,
                 file.volume,
+                &places,
                 FileNumber(id.number as u32),
                 file.header,
                 place - 1,

@@ -8,13 +8,14 @@ use header::pointers::pointer_count;
 use header::pointers::pointer_lbn;
 use header::pointers::pointer_number;
 use image::blocks::block;
+use volume::volume::Places;
 use volume::volume::Volume;
 ghost use mathlib.Core.Path.{_≡_};
 ghost use mathlib.Core.Bool.{true};
 ghost use Prim.Native.Nat.{_<_, _≤_, _^_};
 ghost use Rattle.header.specs.Pointers.{Fits};
 ghost use Rattle.volume.specs.Volume.{slot};
-ghost use Rattle.volume.specs.Opening.{Open};
+ghost use Rattle.volume.specs.Opening.{Recorded};
 ghost use Rattle.file.specs.Chains.{goodChain, IsFirst, fileBlocks};
 ghost use Rattle.extents.specs.Extents.{rowIn, carriedOn, Carries};
 
@@ -72,8 +73,15 @@ fn row_over(h: &[u8], row: Row) -> Row
 }
 
 // The row of a file whose first header has number n and lies at this LBN, from place i, from 0, on.
-pub(crate) fn row_of(image: &[u8], v: Volume, n: FileNumber, lbn: Lbn, i: u32) -> Row
-    requires { ⌜ Open (now image) v × IsFirst (now image) (n .0) × (goodChain (now image) (n .0) ≡ true) × (lbn .0 ≡ slot (now image) (n .0)) ⌝ }
+pub(crate) fn row_of(
+    image: &[u8],
+    v: Volume,
+    places: &Places,
+    n: FileNumber,
+    lbn: Lbn,
+    i: u32,
+) -> Row
+    requires { ⌜ Recorded (now image) v (now places) × IsFirst (now image) (n .0) × (goodChain (now image) (n .0) ≡ true) × (lbn .0 ≡ slot (now image) (n .0)) ⌝ }
     ensures { λ r. ⌜ r ≡ rowIn (fileBlocks (now (image .entry)) (n .0)) i ⌝ }
 {
     let mut h = block(image, lbn.0);
@@ -84,6 +92,6 @@ pub(crate) fn row_of(image: &[u8], v: Volume, n: FileNumber, lbn: Lbn, i: u32) -
         if next == 0 {
             return row;
         }
-        h = header_of(image, v, FileNumber(next));
+        h = header_of(image, v, places, FileNumber(next));
     }
 }

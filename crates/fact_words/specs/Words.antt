@@ -17,7 +17,8 @@ use Rattle.extents.specs.declared.Extent.the-variants as extents
 use Rattle.free.specs.declared.Free.{Free}
 use Rattle.free.specs.declared.Free.the-variants as free
 
--- N, the home's LBN, H.IBSZ, H.IBLB, H.FMAX, how many numbers have a slot, LBN and number of the blocks of the storage map's bits, H.VLEV.
+-- N, the home's LBN, H.IBSZ, H.IBLB, H.FMAX, how many numbers have a slot, LBN and number of the blocks of the storage map's bits, H.VLEV, how many
+-- headers the index file has.
 abbrev pub laidWords : Laid → List ℕ
 laidWords (laid.Done g) =
     doneWords (
@@ -30,6 +31,7 @@ laidWords (laid.Done g) =
     ∷ g .map
     ∷ g .«map_blocks»
     ∷ g .vlev
+    ∷ g .«index_headers»
     ∷ [])
 laidWords (laid.Refused r) = refusedWords r
 

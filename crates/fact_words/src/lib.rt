@@ -30,7 +30,7 @@ pub fn put_laid(answer: &mut [u64; 12], laid: Laid)
                     g.map as u64,
                     g.map_blocks as u64,
                     g.vlev as u64,
-                    0,
+                    g.index_headers as u64,
                 ],
             );
         }

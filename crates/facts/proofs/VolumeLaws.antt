@@ -9,7 +9,7 @@ use Rattle.image.proofs.BlockLaws.{block-length}
 use Rattle.answer.specs.declared.refusal.Refusal.{Refusal}
 use Rattle.answer.specs.declared.outcome.Outcome.the-variants.{Passed, Refused}
 use Rattle.volume.specs.Home.{hVlev, blocks, home}
-use Rattle.volume.specs.Volume.{ibsz, iblb, fmax, index, slots, base, mapBlocks}
+use Rattle.volume.specs.Volume.{ibsz, iblb, fmax, places, index, slots, base, mapBlocks}
 use Rattle.volume.specs.Opening.{openVolume}
 use Rattle.volume.proofs.VolumeLaws.{opens, home-below}
 use Rattle.facts.specs.declared.volumes.Geometry.{Geometry}
@@ -31,9 +31,10 @@ module _ (image : List ℕ) where
 
   -- The geometry, part by part.
   pub geometry-is : (g : Geometry) → g .blocks ≡ blocks image → g .home ≡ home image → g .ibsz ≡ ibsz image → g .iblb ≡ iblb image → g .fmax ≡ fmax image
-      → g .slots ≡ slots image → g .map ≡ base image → g .«map_blocks» ≡ mapBlocks (blocks image) → g .vlev ≡ hVlev (block image (home image)) → g ≡ geometryOf image
+      → g .slots ≡ slots image → g .map ≡ base image → g .«map_blocks» ≡ mapBlocks (blocks image) → g .vlev ≡ hVlev (block image (home image))
+      → g .«index_headers» ≡ length (places image) → g ≡ geometryOf image
   unfolding geometryOf
-  geometry-is g blocks home ibsz iblb fmax slots map bits vlev = λ i. record {
+  geometry-is g blocks home ibsz iblb fmax slots map bits vlev headers = λ i. record {
     blocks = blocks i;
     home = home i;
     ibsz = ibsz i;
@@ -43,6 +44,7 @@ module _ (image : List ℕ) where
     map = map i;
     «map_blocks» = bits i;
     vlev = vlev i;
+    «index_headers» = headers i;
   }
 
   -- What is answered, by what opening the volume came to.

@@ -1,12 +1,13 @@
 -- What a volume says of itself: where its parts lie, and the label in its home block.
 use mathlib.Core.List.{List}
 use Prim.Native.Nat.{ℕ, _+_, _*_}
+use lib.ListN.{length}
 use Rattle.image.specs.Words.{wordAt}
 use Rattle.image.specs.Blocks.{block}
 use Rattle.answer.specs.declared.outcome.Outcome.{Outcome}
 use Rattle.answer.specs.declared.outcome.Outcome.the-variants as outcome
 use Rattle.volume.specs.Home.{hVlev, blocks, home}
-use Rattle.volume.specs.Volume.{ibsz, iblb, fmax, slots, base, mapBlocks}
+use Rattle.volume.specs.Volume.{ibsz, iblb, fmax, places, slots, base, mapBlocks}
 use Rattle.volume.specs.Opening.{openVolume}
 use Rattle.facts.specs.declared.volumes.Geometry.{Geometry}
 use Rattle.facts.specs.declared.volumes.Laid.{Laid}
@@ -16,7 +17,8 @@ use Rattle.facts.specs.declared.volumes.Labelled.{Labelled}
 use Rattle.facts.specs.declared.volumes.Labelled.the-variants as labelled
 
 -- Where the parts of a volume lie: N; the home's LBN; H.IBSZ, H.IBLB, H.FMAX; how many numbers have a slot; the LBN of the storage map's bits, and in how
--- many blocks they lie; H.VLEV. 01, The volume, has the sentence for each.
+-- many blocks they lie; H.VLEV. 01, The volume, has the sentence for each. And how many headers the index file has: 02, 9/14, "all headers in the chain
+-- of file 1".
 unfoldable pub geometryOf : List ℕ → Geometry
 geometryOf image = record {
   blocks = blocks image;
@@ -28,6 +30,7 @@ geometryOf image = record {
   map = base image;
   «map_blocks» = mapBlocks (blocks image);
   vlev = hVlev (block image (home image));
+  «index_headers» = length (places image);
 }
 
 unfoldable pub laidOut : Outcome → Geometry → Laid

@@ -86,7 +86,8 @@ fn facts_of(h: &[u8], count: u32) -> FileFacts
 pub fn describe(image: &[u8], id: FileId) -> Described
     ensures { λ r. ⌜ r ≡ fileAnswer (now (image .entry)) id ⌝ }
 {
-    let file = open(image, id);
+    let mut places = [0u32; 256];
+    let file = open(image, &mut places, id);
     let result = file.outcome;
     match result {
         Outcome::Passed => { Described::Done(facts_of(block(image, file.header.0), file.blocks)) }

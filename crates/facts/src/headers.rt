@@ -18,6 +18,7 @@ use image::blocks::block;
 use image::words::byte_or_zero;
 use image::words::word_at;
 use volume::opening::open;
+use volume::volume::Places;
 use volume::volume::Slot;
 use volume::volume::Volume;
 ghost use mathlib.Core.Path.{_≡_};
@@ -26,7 +27,7 @@ ghost use lib.ListN.{length};
 ghost use Rattle.header.specs.Fields.{hIdof};
 ghost use Rattle.answer.specs.declared.outcome.Outcome.the-variants as outcome;
 ghost use Rattle.volume.specs.Volume.{slot};
-ghost use Rattle.volume.specs.Opening.{Open};
+ghost use Rattle.volume.specs.Opening.{Recorded};
 ghost use Rattle.facts.specs.Headers.{findNumber, identName, factsOf, headerAnswer, pointerAnswer};
 
 // What a header says.
@@ -76,12 +77,12 @@ fn refused(r: Refusal) -> Sought
 }
 
 // Finding the header of a number on an opened volume: NUMBER, HEADER.
-fn seek(image: &[u8], v: Volume, n: FileNumber) -> Sought
-    requires { ⌜ Open (now image) v ⌝ }
+fn seek(image: &[u8], v: Volume, places: &Places, n: FileNumber) -> Sought
+    requires { ⌜ Recorded (now image) v (now places) ⌝ }
     ensures { λ r. ⌜ (r .outcome ≡ findNumber (now (image .entry)) (n .0))
         × (findNumber (now (image .entry)) (n .0) ≡ outcome.Passed → r .header .0 ≡ slot (now (image .entry)) (n .0)) ⌝ }
 {
-    let place = slot_in_use(image, v, n);
+    let place = slot_in_use(image, v, places, n);
     match place {
         Slot::At(lbn) => {
             let unmet = fault(block(image, lbn.0), v.blocks, n.0);
@@ -129,11 +130,11 @@ fn facts_of(h: &[u8]) -> HeaderFacts
 }
 
 // What the header of a file number says, on an opened volume.
-fn show_header_on(image: &[u8], v: Volume, n: FileNumber) -> Shown
-    requires { ⌜ Open (now image) v ⌝ }
+fn show_header_on(image: &[u8], v: Volume, places: &Places, n: FileNumber) -> Shown
+    requires { ⌜ Recorded (now image) v (now places) ⌝ }
     ensures { λ r. ⌜ r ≡ headerAnswer (now (image .entry)) (n .0) ⌝ }
 {
-    let found = seek(image, v, n);
+    let found = seek(image, v, places, n);
     let lbn = found.header;
     let result = found.outcome;
     match result {
@@ -146,21 +147,22 @@ fn show_header_on(image: &[u8], v: Volume, n: FileNumber) -> Shown
 pub fn show_header(image: &[u8], n: FileNumber) -> Shown
     ensures { λ r. ⌜ r ≡ headerAnswer (now (image .entry)) (n .0) ⌝ }
 {
-    let opened = open(image);
+    let mut places = [0u32; 256];
+    let opened = open(image, &mut places);
     let v = opened.volume;
     let result = opened.outcome;
     match result {
-        Outcome::Passed => show_header_on(image, v, n),
+        Outcome::Passed => show_header_on(image, v, &places, n),
         Outcome::Refused(r) => Shown::Refused(r),
     }
 }
 
 // Retrieval pointer p, from 0, of the header of a file number, on an opened volume; ABSENT past the last.
-fn show_pointer_on(image: &[u8], v: Volume, n: FileNumber, p: u32) -> Pointed
-    requires { ⌜ Open (now image) v ⌝ }
+fn show_pointer_on(image: &[u8], v: Volume, places: &Places, n: FileNumber, p: u32) -> Pointed
+    requires { ⌜ Recorded (now image) v (now places) ⌝ }
     ensures { λ r. ⌜ r ≡ pointerAnswer (now (image .entry)) (n .0) p ⌝ }
 {
-    let found = seek(image, v, n);
+    let found = seek(image, v, places, n);
     let lbn = found.header;
     let result = found.outcome;
     match result {
@@ -180,11 +182,12 @@ fn show_pointer_on(image: &[u8], v: Volume, n: FileNumber, p: u32) -> Pointed
 pub fn show_pointer(image: &[u8], n: FileNumber, p: u32) -> Pointed
     ensures { λ r. ⌜ r ≡ pointerAnswer (now (image .entry)) (n .0) p ⌝ }
 {
-    let opened = open(image);
+    let mut places = [0u32; 256];
+    let opened = open(image, &mut places);
     let v = opened.volume;
     let result = opened.outcome;
     match result {
-        Outcome::Passed => show_pointer_on(image, v, n, p),
+        Outcome::Passed => show_pointer_on(image, v, &places, n, p),
         Outcome::Refused(r) => Pointed::Refused(r),
     }
 }

@@ -4,12 +4,14 @@ use answer::refusal::Refusal;
 use header::pointers::block_count;
 use image::blocks::block;
 use image::words::word_at;
+use volume::index::index_blocks;
 use volume::opening::open;
+use volume::volume::Places;
 use volume::volume::Volume;
 use volume::volume::map_blocks;
 ghost use mathlib.Core.Path.{_≡_};
 ghost use lib.ListN.{length};
-ghost use Rattle.volume.specs.Opening.{Open};
+ghost use Rattle.volume.specs.Opening.{Recorded};
 ghost use Rattle.facts.specs.Volumes.{geometryOf, geometryAnswer, labelIn, labelAnswer};
 
 // Where the parts of a volume lie.
@@ -32,6 +34,8 @@ pub struct Geometry {
     pub map_blocks: u32,
     // H.VLEV.
     pub vlev: u16,
+    // How many headers the index file has.
+    pub index_headers: u32,
 }
 
 // The answer of asking where the parts of a volume lie.
@@ -66,11 +70,11 @@ pub enum Labelled {
 }
 
 // Where the parts of an opened volume lie.
-fn geometry_on(image: &[u8], v: Volume) -> Geometry
-    requires { ⌜ Open (now image) v ⌝ }
+fn geometry_on(image: &[u8], v: Volume, places: &Places) -> Geometry
+    requires { ⌜ Recorded (now image) v (now places) ⌝ }
     ensures { λ r. ⌜ r ≡ geometryOf (now (image .entry)) ⌝ }
 {
-    let mapped = block_count(block(image, v.iblb + v.ibsz));
+    let mapped = index_blocks(image, v, places);
     let vlev = word_at(block(image, v.home), 12);
     Geometry {
         blocks: v.blocks,
@@ -82,6 +86,7 @@ fn geometry_on(image: &[u8], v: Volume) -> Geometry
         map: v.base,
         map_blocks: map_blocks(v.blocks),
         vlev,
+        index_headers: v.segments as u32,
     }
 }
 
@@ -89,11 +94,12 @@ fn geometry_on(image: &[u8], v: Volume) -> Geometry
 pub fn geometry_of(image: &[u8]) -> Laid
     ensures { λ r. ⌜ r ≡ geometryAnswer (now (image .entry)) ⌝ }
 {
-    let opened = open(image);
+    let mut places = [0u32; 256];
+    let opened = open(image, &mut places);
     let v = opened.volume;
     let result = opened.outcome;
     match result {
-        Outcome::Passed => Laid::Done(geometry_on(image, v)),
+        Outcome::Passed => Laid::Done(geometry_on(image, v, &places)),
         Outcome::Refused(r) => Laid::Refused(r),
     }
 }
@@ -121,7 +127,8 @@ fn label_in(b: &[u8]) -> Label
 pub fn label_of(image: &[u8]) -> Labelled
     ensures { λ r. ⌜ r ≡ labelAnswer (now (image .entry)) ⌝ }
 {
-    let opened = open(image);
+    let mut places = [0u32; 256];
+    let opened = open(image, &mut places);
     let v = opened.volume;
     let result = opened.outcome;
     match result {

@@ -1,4 +1,5 @@
 pub mod ChainLaws
+pub mod IndexFile
 pub mod LinkLaws
 pub mod MappingLaws
 pub mod NumberLaws

@@ -9,11 +9,10 @@ use lib.Dec.{eqb}
 use Rattle.image.specs.Blocks.{block}
 use Rattle.answer.specs.declared.types.Lbn.{Lbn}
 use Rattle.header.specs.Fields.{hFseq, segment, mEfnu, mEfsq}
-use Rattle.header.specs.Whole.{fault}
 use Rattle.volume.specs.declared.volume.Slot.{Slot}
 use Rattle.volume.specs.declared.volume.Slot.the-variants.{At, Missing}
 use Rattle.volume.specs.Home.{blocks}
-use Rattle.volume.specs.Volume.{slot, header, faultOf, isNumber}
+use Rattle.volume.specs.Volume.{follows, slot, header, faultOf, isNumber}
 use Rattle.file.specs.declared.chains.Link.{Link}
 use Rattle.file.specs.declared.chains.Link.the-variants.{End, To, Bad}
 use Rattle.file.specs.Chains.{slotInUse, linksOn, goodLink, linkFrom}
@@ -57,9 +56,8 @@ module _ (image h : List ℕ) where
 
   -- The tests of the header that M.EFNU names, where that is a number in use with a slot.
   pub links-number : isNumber image (mEfnu h) ≡ true
-      → linksOn image h
-      ≡ (eqb (fault (blocks image) (mEfnu h) (header image (mEfnu h))) 0 && eqb (hFseq (header image (mEfnu h))) (mEfsq h) && eqb (segment (header image (mEfnu h))) (segment h + 1))
-  unfolding linksOn faultOf
+      → linksOn image h ≡ follows (blocks image) h (header image (mEfnu h))
+  unfolding linksOn follows faultOf
   links-number e = rw e
 
   pub links-none : isNumber image (mEfnu h) ≡ false → linksOn image h ≡ false

@@ -1,5 +1,5 @@
 -- Laws of the headers of numbers that are in use and have a slot, on a volume that opens.
-use mathlib.Core.Path.{_≡_, refl, subst}
+use mathlib.Core.Path.{_≡_}
 use mathlib.Core.Bool.{true, _&&_, and-eq-true-iff}
 use mathlib.Core.List.{List}
 use Prim.Native.Nat.{ℕ, _-_, _≤_}
@@ -14,10 +14,8 @@ use Rattle.answer.specs.declared.outcome.Outcome.the-variants.{Passed}
 use Rattle.header.specs.Fields.{mapArea, segment}
 use Rattle.header.specs.Pointers.{Fits}
 use Rattle.header.proofs.WholeLaws.{whole-fits}
-use Rattle.volume.specs.declared.volume.Slot.{Slot}
-use Rattle.volume.specs.declared.volume.Slot.the-variants.{At, Missing}
 use Rattle.volume.specs.Home.{blocks}
-use Rattle.volume.specs.Volume.{fmax, indexMap, slot, slots, hasSlot, slotOf, header, faultOf, inUse, isNumber}
+use Rattle.volume.specs.Volume.{fmax, indexMap, slot, slots, hasSlot, header, faultOf, inUse, isNumber}
 use Rattle.volume.specs.Opening.{openVolume}
 use Rattle.volume.proofs.VolumeLaws.{opens, header-length}
 
@@ -26,20 +24,13 @@ pub segment-most : (image : List ℕ) (n : ℕ) → Bytes image → segment (hea
 unfolding header segment
 segment-most image n bytes = omega (arith, block-bytes image (slot image n) bytes .each (mapArea (header image n)))
 
--- What is known of a number that has a slot by the slot that was found for it.
-abbrev pub Lies : List ℕ → ℕ → Slot → Type 0
-Lies image n (At lbn) = lbn .0 ≡ slot image n
-Lies image n Missing = ⊥
-
 module _ (image : List ℕ) (n : ℕ) (h : isNumber image n ≡ true) where
   both : (inUse image n ≡ true) × (hasSlot image n ≡ true)
   unfolding isNumber
   both = and-eq-true-iff (inUse image n) (hasSlot image n) .0 h
 
-  -- Its slot is found.
-  pub number-slot : (s : Slot) → slotOf image n ≡ s → Lies image n s
-  unfolding slotOf
-  number-slot s e = subst (Lies image n) e (rw (both .1) refl)
+  pub number-slot : hasSlot image n ≡ true
+  number-slot = both .1
 
   pub number-low : 1 ≤ n
   unfolding inUse

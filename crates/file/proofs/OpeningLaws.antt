@@ -21,12 +21,18 @@ use Rattle.file.specs.Chains.{goodChain, IsFirst}
 use Rattle.file.specs.declared.opening.Finding.{Finding}
 use Rattle.file.specs.declared.opening.Finding.the-variants as findings
 use Rattle.file.specs.declared.opening.OpenFile.{OpenFile}
-use Rattle.file.specs.Opening.{find, finding, locked, access, chained, openFile, Tells}
+use Rattle.file.specs.Opening.{find, finding, locked, access, chained, openFile, Tells, TellsPlaces}
 
 -- A refusal tells nothing but itself.
 pub tells-refused : (image : List ℕ) (id : FileId) (result : Outcome) (r : Refusal) (file : OpenFile)
     → result ≡ Refused r → file .outcome ≡ Refused r → file .blocks ≡ 0 → Tells image id result file
 tells-refused image id result r file e o b = (o ∙ sym e, λ p. absurd (refused-not r (sym e ∙ p)), omega arith)
+
+pub places-refused : (image : List ℕ) (id : FileId) (result : Outcome) (r : Refusal) (file : OpenFile) (at : List ℕ)
+    → result ≡ Refused r → file .outcome ≡ Refused r → file .blocks ≡ 0 → TellsPlaces image id result file at
+places-refused image id result r file at e o b =
+    let t = tells-refused image id result r file e o b in
+    (t .0, t .1, t .2, λ p. absurd (refused-not r (sym e ∙ p)))
 
 module _ (image : List ℕ) (id : FileId) where
   -- What finding a header comes to, by its tests.

@@ -16,7 +16,7 @@ use Rattle.header.specs.Pointers.{blocksOf}
 use Rattle.header.proofs.WholeLaws.{whole-inside}
 use Rattle.volume.specs.Home.{blocks}
 use Rattle.volume.specs.Volume.{slot, header, faultOf}
-use Rattle.volume.proofs.VolumeLaws.{blocksOf-most}
+use Rattle.volume.proofs.IndexLaws.{blocksOf-most}
 use Rattle.file.specs.Chains.{chain, chainOf, every, linkOf, goodChain, flat, IsFirst, fileBlocks}
 use Rattle.file.proofs.LinkLaws.{good-links}
 use Rattle.file.proofs.ChainLaws.{flat-end, flat-more, every-more}

@@ -11,7 +11,7 @@ use Rattle.answer.specs.declared.outcome.Outcome.{Outcome}
 use Rattle.answer.specs.declared.outcome.Outcome.the-variants as outcome
 use Rattle.answer.specs.Outcome.{unless, _then_}
 use Rattle.header.specs.Fields.{hFseq, userFlags, systemFlags, segment}
-use Rattle.volume.specs.Volume.{slot, header, faultOf, isNumber, volumeOf}
+use Rattle.volume.specs.Volume.{slot, header, faultOf, isNumber, volumeOf, placesOf}
 use Rattle.volume.specs.Opening.{openVolume}
 use Rattle.file.specs.Chains.{goodChain, fileBlocks}
 use Rattle.file.specs.declared.opening.Finding.{Finding}
@@ -63,6 +63,15 @@ Tells image id result file =
     × (result ≡ outcome.Passed
     → (file .volume ≡ volumeOf image) × (file .blocks ≡ length (fileBlocks image (id .number))) × (file .header .0 ≡ slot image (id .number)))
     × (file .blocks ≤ 8323072)
+
+-- The same, with the places of the volume record.
+abbrev pub TellsPlaces : List ℕ → FileId → Outcome → OpenFile → List ℕ → Type 0
+TellsPlaces image id result file at =
+    (file .outcome ≡ result)
+    × (result ≡ outcome.Passed
+    → (file .volume ≡ volumeOf image) × (file .blocks ≡ length (fileBlocks image (id .number))) × (file .header .0 ≡ slot image (id .number)))
+    × (file .blocks ≤ 8323072)
+    × (result ≡ outcome.Passed → at ≡ placesOf image)
 
 -- 01, Answer numbers: DONE has as value the "block count (open file)".
 unfoldable pub openedFile : Outcome → ℕ → OpenedFile

@@ -20,7 +20,8 @@ pub enum Mapped {
 pub fn map(image: &[u8], id: FileId, vbn: Vbn) -> Mapped
     ensures { λ r. ⌜ r ≡ mapAnswer (now (image .entry)) id (vbn .0) ⌝ }
 {
-    let file = open(image, id);
+    let mut places = [0u32; 256];
+    let file = open(image, &mut places, id);
     let result = file.outcome;
     match result {
         Outcome::Passed => {
@@ -34,6 +35,7 @@ pub fn map(image: &[u8], id: FileId, vbn: Vbn) -> Mapped
             Mapped::Done(lbn_at(
                 image,
                 file.volume,
+                &places,
                 FileNumber(id.number as u32),
                 file.header,
                 place - 1,

@@ -13,17 +13,19 @@ use header::fields::system_flags;
 use header::fields::user_flags;
 use header::whole::fault;
 use image::blocks::block;
+use volume::volume::Places;
 use volume::volume::Slot;
 use volume::volume::Volume;
 ghost use mathlib.Core.Path.{_≡_};
 ghost use mathlib.Core.Bool.{not};
+ghost use Rattle.image.specs.Stores.{zeros};
 ghost use Rattle.answer.specs.declared.refusal.Refusal.the-variants as refusal;
 ghost use Rattle.answer.specs.declared.outcome.Outcome.the-variants as outcome;
 ghost use Rattle.answer.specs.Outcome.{unless, _then_};
 ghost use Rattle.volume.specs.Volume.{slot};
-ghost use Rattle.volume.specs.Opening.{Open};
+ghost use Rattle.volume.specs.Opening.{Recorded};
 ghost use Rattle.file.specs.Chains.{IsFirst};
-ghost use Rattle.file.specs.Opening.{find, finding, locked, access, chained, openFile, Tells, openAnswer};
+ghost use Rattle.file.specs.Opening.{find, finding, locked, access, chained, openFile, Tells, TellsPlaces, openAnswer};
 
 // The answer of opening a file.
 pub enum OpenedFile {
@@ -51,15 +53,15 @@ pub enum Finding {
 }
 
 // Finding the header: RELVOL, NUMBER, HEADER, SEQUENCE, SEGMENT.
-fn find(image: &[u8], v: Volume, id: FileId) -> Finding
-    requires { ⌜ Open (now image) v ⌝ }
+fn find(image: &[u8], v: Volume, places: &Places, id: FileId) -> Finding
+    requires { ⌜ Recorded (now image) v (now places) ⌝ }
     ensures { λ r. ⌜ r ≡ finding (find (now (image .entry)) id) (slot (now (image .entry)) (id .number)) ⌝ }
 {
     if id.volume != 0 {
         return Finding::Refused(Refusal::Relvol);
     }
     let n = id.number as u32;
-    let place = slot_in_use(image, v, FileNumber(n));
+    let place = slot_in_use(image, v, places, FileNumber(n));
     match place {
         Slot::At(lbn) => {
             let h = block(image, lbn.0);
@@ -116,11 +118,11 @@ fn refused(v: Volume, r: Refusal) -> OpenFile
 }
 
 // The chain of a file to which there is access: CHAIN.
-fn open_chain(image: &[u8], v: Volume, id: FileId, lbn: Lbn) -> OpenFile
-    requires { ⌜ Open (now image) v × IsFirst (now image) (id .number) × (lbn .0 ≡ slot (now image) (id .number)) ⌝ }
+fn open_chain(image: &[u8], v: Volume, places: &Places, id: FileId, lbn: Lbn) -> OpenFile
+    requires { ⌜ Recorded (now image) v (now places) × IsFirst (now image) (id .number) × (lbn .0 ≡ slot (now image) (id .number)) ⌝ }
     ensures { λ r. ⌜ Tells (now (image .entry)) id (chained (now (image .entry)) id) r ⌝ }
 {
-    let found = chain_blocks(image, v, FileNumber(id.number as u32), lbn);
+    let found = chain_blocks(image, v, places, FileNumber(id.number as u32), lbn);
     match found {
         Chain::Good(blocks) => OpenFile {
             outcome: Outcome::Passed,
@@ -133,16 +135,16 @@ fn open_chain(image: &[u8], v: Volume, id: FileId, lbn: Lbn) -> OpenFile
 }
 
 // Opens a file on an opened volume.
-pub fn open_on(image: &[u8], v: Volume, id: FileId) -> OpenFile
-    requires { ⌜ Open (now image) v ⌝ }
+pub fn open_on(image: &[u8], v: Volume, places: &Places, id: FileId) -> OpenFile
+    requires { ⌜ Recorded (now image) v (now places) ⌝ }
     ensures { λ r. ⌜ Tells (now (image .entry)) id (find (now (image .entry)) id then access (now (image .entry)) id then chained (now (image .entry)) id) r ⌝ }
 {
-    let found = find(image, v, id);
+    let found = find(image, v, places, id);
     match found {
         Finding::At(lbn) => {
             let admitted = access(block(image, lbn.0));
             match admitted {
-                Outcome::Passed => open_chain(image, v, id, lbn),
+                Outcome::Passed => open_chain(image, v, places, id, lbn),
                 Outcome::Refused(r) => refused(v, r),
             }
         }
@@ -150,16 +152,18 @@ pub fn open_on(image: &[u8], v: Volume, id: FileId) -> OpenFile
     }
 }
 
-// Opens a file. The volume that is handed on is what opening it gave, and not the copy that came back with the file.
-pub fn open(image: &[u8], id: FileId) -> OpenFile
-    ensures { λ r. ⌜ Tells (now (image .entry)) id (openFile (now (image .entry)) id) r ⌝ }
+// Opens a file. The volume record that is handed on is what opening the volume gave, and not the copy that came back with the file; its places are left
+// in the array lent for them.
+pub fn open(image: &[u8], places: &mut Places, id: FileId) -> OpenFile
+    requires { ⌜ now places ≡ zeros 256 ⌝ }
+    ensures { λ r. ⌜ TellsPlaces (now (image .entry)) id (openFile (now (image .entry)) id) r (now (places .exit)) ⌝ }
 {
-    let opened = volume::opening::open(image);
+    let opened = volume::opening::open(image, places);
     let v = opened.volume;
     let result = opened.outcome;
     match result {
         Outcome::Passed => {
-            let file = open_on(image, v, id);
+            let file = open_on(image, v, places, id);
             let outcome = file.outcome;
             let header = file.header;
             OpenFile {
@@ -177,7 +181,8 @@ pub fn open(image: &[u8], id: FileId) -> OpenFile
 pub fn open_file(image: &[u8], id: FileId) -> OpenedFile
     ensures { λ r. ⌜ r ≡ openAnswer (now (image .entry)) id ⌝ }
 {
-    let o = open(image, id);
+    let mut places = [0u32; 256];
+    let o = open(image, &mut places, id);
     let result = o.outcome;
     match result {
         Outcome::Passed => OpenedFile::Done(o.blocks),

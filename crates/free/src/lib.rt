@@ -53,7 +53,8 @@ fn free_on(image: &[u8], v: Volume, from: u32) -> Free
 pub fn free_run(image: &[u8], from: Lbn) -> Free
     ensures { λ r. ⌜ r ≡ freeRun (now (image .entry)) (from .0) ⌝ }
 {
-    let opened = open(image);
+    let mut places = [0u32; 256];
+    let opened = open(image, &mut places);
     let v = opened.volume;
     let result = opened.outcome;
     match result {

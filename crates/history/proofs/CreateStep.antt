@@ -17,11 +17,11 @@ use Rattle.edits.specs.Fresh.{freshHeader}
 use Rattle.edits.proofs.FreshLaws.{fresh-is}
 use Rattle.update.specs.Create.{freeNumber, newSequence, createOutcome, withFile, withNumber}
 use Rattle.update.proofs.Effects.{Good}
-use Rattle.update.proofs.FrameLaws.{volume-same, slots-same, header-same, opens-after, kept}
+use Rattle.update.proofs.FrameLaws.{volume-same, record-same, slots-same, header-same, opens-after, kept}
 use Rattle.update.proofs.PassedLaws.{CreatePassed, create-passed}
 use Rattle.update.proofs.DoneLaws.{sequence-above}
 use Rattle.update.proofs.CreateSound.{create-sound}
-use Rattle.update.proofs.CreateLaws.{Creating, create-written, create-header, create-bytes, create-length, create-effect, create-others}
+use Rattle.update.proofs.CreateLaws.{Creating, create-written, create-stays, create-header, create-bytes, create-length, create-effect, create-others}
 use Rattle.history.specs.Calls.{create, Words}
 use Rattle.history.proofs.Step.{Step}
 
@@ -64,7 +64,7 @@ module _ (image : List ℕ) (g : Good image) (name : Name) (owner protection : �
   new-word = omega (arith, ap hFseq (create-header creating), creating .fresh .fseq, sequence-above image n)
 
   old-word : (k : ℕ) → 1 ≤ k → k ≤ slots image → (k ≡ n → ⊥) → hFseq (header z k) ≡ hFseq (header image k)
-  old-word k a b ne = ap hFseq (header-same (create-written creating) k a b ne)
+  old-word k a b ne = ap hFseq (header-same (create-written creating) (create-stays creating) k a b ne)
 
   rises : (k : ℕ) → 1 ≤ k → k ≤ slots image → Dec (k ≡ n) → hFseq (header image k) ≤ hFseq (header z k)
   rises k a b (yes e) = rw e (omega (arith, new-word))
@@ -81,12 +81,14 @@ module _ (image : List ℕ) (g : Good image) (name : Name) (owner protection : �
   pub create-step : Step (create name owner protection area headers) image z
   create-step =
       let written = create-written creating in
+      let bits = create-stays creating in
       record {
-        good = record { bytes = create-bytes creating; opens = opens-after written; sound = create-sound image z n (g .sound) (create-effect creating) };
-        volume = volume-same written;
-        slotted = slots-same written;
+        good = record { bytes = create-bytes creating; opens = opens-after written bits; sound = create-sound image z n (g .sound) (create-effect creating) };
+        volume = volume-same written bits;
+        places = record-same written bits;
+        slotted = slots-same written bits;
         used = λ f above file unnamed. create-effect creating .others f (other f (file .used)) ∙ file .used;
-        kept = λ f above file unnamed. kept written f (omega arith) file (λ x m e. other x (member-used image (g .sound) f file x m) e);
+        kept = λ f above file unnamed. kept written bits f (omega arith) file (λ x m e. other x (member-used image (g .sound) f file x m) e);
         rises = λ k a b. rises k a b (ℕ-discrete k n);
         renewed = λ k a b was is. renewed k was is (ℕ-discrete k n);
         size = create-length creating;

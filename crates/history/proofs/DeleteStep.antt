@@ -18,10 +18,10 @@ use Rattle.sound.proofs.ChainLaws.{chains-apart}
 use Rattle.edits.proofs.ClearedLaws.{cleared-fseq}
 use Rattle.update.specs.Delete.{deleteOutcome, withoutNumbers}
 use Rattle.update.proofs.Effects.{Good}
-use Rattle.update.proofs.FrameLaws.{volume-same, slots-same, header-same, opens-after, kept}
+use Rattle.update.proofs.FrameLaws.{volume-same, record-same, slots-same, header-same, opens-after, kept}
 use Rattle.update.proofs.PassedLaws.{DeletePassed, delete-passed}
 use Rattle.update.proofs.DeleteSound.{delete-sound}
-use Rattle.update.proofs.DeleteLaws.{Deleting, delete-written, delete-headers, delete-bytes, delete-length, delete-effect, delete-others}
+use Rattle.update.proofs.DeleteLaws.{Deleting, delete-written, delete-stays, delete-headers, delete-bytes, delete-length, delete-effect, delete-others}
 use Rattle.history.specs.Calls.{delete, Names}
 use Rattle.history.proofs.Step.{Step}
 use Rattle.history.proofs.OpenLaws.{first-in}
@@ -51,7 +51,7 @@ module _ (image : List ℕ) (g : Good image) (id : FileId) (area headers : List 
   pub word : (k : ℕ) → 1 ≤ k → k ≤ slots image → Dec (0 < count k l) → hFseq (header z k) ≡ hFseq (header image k)
   unfolding header
   word k a b (yes i) = ap hFseq (delete-headers deleting k i) ∙ cleared-fseq (header image k) (block-bytes image (slot image k) (g .bytes))
-  word k a b (no i) = ap hFseq (header-same (delete-written deleting) k a b i)
+  word k a b (no i) = ap hFseq (header-same (delete-written deleting) (delete-stays deleting) k a b i)
 
   unused : (k : ℕ) → Dec (0 < count k l) → inUse image k ≡ false → inUse z k ≡ false
   unused k (yes i) was = delete-effect deleting .gone k i
@@ -60,18 +60,20 @@ module _ (image : List ℕ) (g : Good image) (id : FileId) (area headers : List 
   pub delete-step : Step (delete id area headers) image z
   delete-step =
       let written = delete-written deleting in
+      let bits = delete-stays deleting in
       let other : (f : ℕ) → (Names (delete id area headers) f (hFseq (header image f)) → ⊥) → f ≡ id .number → ⊥ =
       λ f unnamed e. unnamed (sym e, omega (arith, opened-sequence image id f (facts .opens .found .sequence) e)) in
       record {
         good = record {
           bytes = delete-bytes deleting;
-          opens = opens-after written;
+          opens = opens-after written bits;
           sound = delete-sound image z (id .number) (g .bytes) (g .sound) (facts .file) (facts .above) (delete-effect deleting);
         };
-        volume = volume-same written;
-        slotted = slots-same written;
+        volume = volume-same written bits;
+        places = record-same written bits;
+        slotted = slots-same written bits;
         used = λ f above file unnamed. stays f file (other f unnamed) (decLt 0 (count f l));
-        kept = λ f above file unnamed. kept written f (omega arith) file (apart f file (other f unnamed));
+        kept = λ f above file unnamed. kept written bits f (omega arith) file (apart f file (other f unnamed));
         rises = λ k a b. omega (arith, word k a b (decLt 0 (count k l)));
         renewed = λ k a b was is. absurd (false≢true (sym (unused k (decLt 0 (count k l)) was) ∙ is));
         size = delete-length deleting;

@@ -16,11 +16,11 @@ use Rattle.sound.specs.Claims.{IsFile}
 use Rattle.sound.proofs.ChainLaws.{member-used, chains-apart}
 use Rattle.update.specs.Extend.{lastNumber, runStart, extendOutcome, withBlocks}
 use Rattle.update.proofs.Effects.{Good}
-use Rattle.update.proofs.FrameLaws.{volume-same, slots-same, header-same, opens-after, kept}
+use Rattle.update.proofs.FrameLaws.{volume-same, record-same, slots-same, header-same, opens-after, kept}
 use Rattle.update.proofs.PassedLaws.{ExtendPassed, extend-passed}
 use Rattle.update.proofs.LastLaws.{last-member}
 use Rattle.update.proofs.ExtendSound.{extend-sound}
-use Rattle.update.proofs.ExtendLaws.{Extending, extend-written, extend-bytes, extend-length, extend-effect, extend-others, run-fits, run-has}
+use Rattle.update.proofs.ExtendLaws.{Extending, extend-written, extend-stays, extend-bytes, extend-length, extend-effect, extend-others, run-fits, run-has}
 use Rattle.update.proofs.DeleteLaws.{delete-known}
 use Rattle.history.specs.Calls.{extend, Names}
 use Rattle.history.proofs.Step.{Step}
@@ -45,11 +45,18 @@ module _ (image : List ℕ) (g : Good image) (id : FileId) (c : ℕ) (area heade
   known : (6 ≤ n) × (n ≤ slots image)
   known = delete-known (record { good = g; file = facts .file; high = facts .above }) n member
 
+  -- The last header of a file above 5 is none of the index file's.
+  apart-one : In n (chainOf image 1) → ⊥
+  apart-one m =
+      let k = g .sound .known 1 (omega arith) (omega arith) in
+      omega (arith, facts .above, chains-apart image (g .sound) 1 (id .number) (record { used = k .used; first = k .first }) (facts .file) n m member)
+
   pub extending : Extending image n s c
   extending = record {
     good = g;
     low = known .0;
     used = member-used image (g .sound) (id .number) (facts .file) n member;
+    apart = λ m. apart-one m;
     room = facts .room;
     counted = facts .counted;
     fits = run-fits image c (facts .run);
@@ -65,19 +72,21 @@ module _ (image : List ℕ) (g : Good image) (id : FileId) (c : ℕ) (area heade
 
   word : (k : ℕ) → 1 ≤ k → k ≤ slots image → Dec (k ≡ n) → hFseq (header z k) ≡ hFseq (header image k)
   word k a b (yes e) = rw e (extend-effect extending .fseq)
-  word k a b (no ne) = ap hFseq (header-same (extend-written extending) k a b ne)
+  word k a b (no ne) = ap hFseq (header-same (extend-written extending) (extend-stays extending) k a b ne)
 
   pub extend-step : Step (extend id c area headers) image z
   extend-step =
       let written = extend-written extending in
+      let bits = extend-stays extending in
       let other : (f : ℕ) → (Names (extend id c area headers) f (hFseq (header image f)) → ⊥) → f ≡ id .number → ⊥ =
       λ f unnamed e. unnamed (sym e, omega (arith, opened-sequence image id f (facts .opens .found .sequence) e)) in
       record {
-        good = record { bytes = extend-bytes extending; opens = opens-after written; sound = extend-sound image z n s c (g .sound) (extend-effect extending) };
-        volume = volume-same written;
-        slotted = slots-same written;
+        good = record { bytes = extend-bytes extending; opens = opens-after written bits; sound = extend-sound image z n s c (g .sound) (extend-effect extending) };
+        volume = volume-same written bits;
+        places = record-same written bits;
+        slotted = slots-same written bits;
         used = λ f above file unnamed. extend-effect extending .used f ∙ file .used;
-        kept = λ f above file unnamed. kept written f (omega arith) file (apart f file (other f unnamed));
+        kept = λ f above file unnamed. kept written bits f (omega arith) file (apart f file (other f unnamed));
         rises = λ k a b. omega (arith, word k a b (ℕ-discrete k n));
         renewed = λ k a b was is. absurd (false≢true (sym was ∙ sym (extend-effect extending .used k) ∙ is));
         size = extend-length extending;

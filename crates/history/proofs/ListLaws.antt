@@ -9,7 +9,7 @@ use Rattle.image.specs.Stores.{zeros}
 use Rattle.image.proofs.StoreLaws.{zeros-length}
 use Rattle.header.specs.Fields.{hFseq, segment}
 use Rattle.volume.specs.Home.{blocks}
-use Rattle.volume.specs.Volume.{fmax, slots, header, volumeOf}
+use Rattle.volume.specs.Volume.{fmax, slots, header, volumeOf, placesOf}
 use Rattle.volume.proofs.VolumeLaws.{opens, opens-all}
 use Rattle.file.specs.Chains.{fileBlocks}
 use Rattle.marks.proofs.CountLaws.{count-at}
@@ -89,17 +89,19 @@ bounded image bytes a call w =
 -- The volume opens as before, and no sequence word falls.
 record Risen (image image′ : List ℕ) : Type 0 where
   volume : volumeOf image′ ≡ volumeOf image
+  places : placesOf image′ ≡ placesOf image
   slotted : slots image′ ≡ slots image
   rises : (n : ℕ) → 1 ≤ n → n ≤ slots image → hFseq (header image n) ≤ hFseq (header image′ n)
 
 run-risen : (calls : List Call) (image : List ℕ) → Good image → Each Words calls → Risen image (run calls image)
 unfolding run
-run-risen [] image g w = record { volume = refl; slotted = refl; rises = λ n a b. omega arith }
+run-risen [] image g w = record { volume = refl; places = refl; slotted = refl; rises = λ n a b. omega arith }
 run-risen (call ∷ calls) image g w =
     let s = step-is call image g (w .0) in
     let r = run-risen calls (step call image) (s .good) (w .1) in
     record {
       volume = r .volume ∙ s .volume;
+      places = r .places ∙ s .places;
       slotted = r .slotted ∙ s .slotted;
       rises = λ n a b. omega (arith, s .rises n a b, r .rises n a (omega (arith, s .slotted)));
     }
@@ -111,6 +113,7 @@ steady image bytes a calls w =
     record {
       opens = opens-all (run calls image) (run-good calls image g w .opens);
       volume = r .volume;
+      places = r .places;
       slotted = r .slotted;
       rises = λ n a b. omega (arith, r .rises n a b);
     }

@@ -6,7 +6,7 @@ use Prim.Native.Nat.{ℕ, _≤_, _<_}
 use lib.ListN.{length}
 use Rattle.image.specs.Blocks.{block}
 use Rattle.header.specs.Fields.{hFseq}
-use Rattle.volume.specs.Volume.{slots, header, inUse, volumeOf}
+use Rattle.volume.specs.Volume.{slots, header, inUse, volumeOf, placesOf}
 use Rattle.sound.specs.Claims.{IsFile}
 use Rattle.update.proofs.Effects.{Good, Kept}
 use Rattle.history.specs.Calls.{Call, Names}
@@ -16,6 +16,7 @@ use Rattle.history.specs.Writing.{Unwritten}
 pub record Step (call : Call) (image image′ : List ℕ) : Type 0 where
   pub good : Good image′
   pub volume : volumeOf image′ ≡ volumeOf image
+  pub places : placesOf image′ ≡ placesOf image
   pub slotted : slots image′ ≡ slots image
   -- A file that the call does not name is in use, and keeps its headers, its blocks and their bytes.
   pub used : (f : ℕ) → lastKnown < f → IsFile image f → (Names call f (hFseq (header image f)) → ⊥) → inUse image′ f ≡ true

@@ -27,6 +27,7 @@ step-none : (call : Call) (image : List ℕ) → Good image → Step call image 
 step-none call image g = record {
   good = g;
   volume = refl;
+  places = refl;
   slotted = refl;
   used = λ f above file unnamed. file .used;
   kept = λ f above file unnamed. record { headers = λ x m. refl; chain = refl; blocks = refl; bytes = λ j m. refl };

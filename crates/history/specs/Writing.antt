@@ -8,7 +8,7 @@ use Rattle.image.specs.Blocks.{block}
 use Rattle.answer.specs.declared.refusal.Refusal.{Refusal}
 use Rattle.answer.specs.declared.outcome.Outcome.the-variants.{Passed, Refused}
 use Rattle.header.specs.Fields.{hFseq}
-use Rattle.volume.specs.Volume.{iblb, slot, slots, header, base, volumeOf}
+use Rattle.volume.specs.Volume.{iblb, slot, slots, header, base, volumeOf, placesOf}
 use Rattle.volume.specs.Opening.{openVolume}
 use Rattle.file.specs.Chains.{chainOf, fileBlocks}
 use Rattle.marks.specs.Counts.{In}
@@ -49,6 +49,7 @@ WritesBounded = (image : List ℕ) → Bytes image → Accepted image → (call 
 pub record Steady (image : List ℕ) (calls : List Call) : Type 0 where
   pub opens : openVolume (run calls image) ≡ Passed
   pub volume : volumeOf (run calls image) ≡ volumeOf image
+  pub places : placesOf (run calls image) ≡ placesOf image
   pub slotted : slots (run calls image) ≡ slots image
   pub rises : (n : ℕ) → 1 ≤ n → n ≤ slots image → hFseq (header image n) ≤ hFseq (header (run calls image) n)
 

@@ -10,7 +10,7 @@ use lib.Dec.{eqb, leb}
 use Rattle.image.specs.Blocks.{block}
 use Rattle.answer.specs.declared.outcome.Outcome.the-variants.{Passed}
 use Rattle.header.specs.Fields.{hFseq, segment, mEfnu, mEfsq}
-use Rattle.volume.specs.Volume.{fmax, header, faultOf, inUse, hasSlot, isNumber}
+use Rattle.volume.specs.Volume.{follows, fmax, header, faultOf, inUse, hasSlot, isNumber}
 use Rattle.file.specs.Chains.{goodLink}
 use Rattle.file.proofs.LinkLaws.{link-more, links-number, links-none}
 use Rattle.marks.specs.Counts.{count}
@@ -111,7 +111,7 @@ is-capped l x w h e = omega arith
 -- The link of a header where FILES has passed: that the header it names is whole need not be asked.
 pub good-number : (image h : List ℕ) → FilesPassed image → (mEfnu h ≡ 0 → ⊥) → isNumber image (mEfnu h) ≡ true
     → goodLink image h ≡ (eqb (hFseq (header image (mEfnu h))) (mEfsq h) && eqb (segment (header image (mEfnu h))) (segment h + 1))
-unfolding isNumber faultOf
+unfolding isNumber faultOf follows
 good-number image h f some number =
     let n = mEfnu h in
     rw (link-more image h some, links-number image h number, eq-eqb (faultOf image n) 0 (f .whole n (and-eq-true-iff (inUse image n) (hasSlot image n) .0 number .0)))

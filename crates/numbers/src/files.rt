@@ -14,6 +14,7 @@ use image::blocks::region;
 use slots::slots::SlotRun;
 use slots::slots::next_run;
 use slots::slots::slot_run;
+use volume::volume::Places;
 use volume::volume::Slot;
 use volume::volume::Volume;
 ghost use mathlib.Core.Path.{_≡_};
@@ -22,7 +23,7 @@ ghost use Prim.Native.Nat.{_≤_};
 ghost use Rattle.image.specs.Blocks.{block};
 ghost use Rattle.answer.specs.declared.outcome.Outcome.the-variants.{Passed};
 ghost use Rattle.volume.specs.Volume.{inUse};
-ghost use Rattle.volume.specs.Opening.{Open};
+ghost use Rattle.volume.specs.Opening.{Open, Recorded};
 ghost use Rattle.slots.specs.Slots.{Stands};
 ghost use Rattle.numbers.specs.Files.{badFile, unmetOf, filesPlace, files};
 ghost use Rattle.numbers.specs.Links.{isSingle, UnlinkedBelow, Unlinked};
@@ -75,8 +76,8 @@ fn is_single(image: &[u8], used: bool, lbn: Lbn) -> bool
 }
 
 // The lowest number that offends; H.FMAX + 1 where there is none. And whether each header in use below it is the only one of its file.
-fn first_bad_file(image: &[u8], v: Volume) -> Search
-    requires { ⌜ Open (now image) v ⌝ }
+fn first_bad_file(image: &[u8], v: Volume, places: &Places) -> Search
+    requires { ⌜ Recorded (now image) v (now places) ⌝ }
     ensures { λ r. ⌜ (r .place ≡ filesPlace (now (image .entry))) × (r .single ≡ true → UnlinkedBelow (now (image .entry)) (r .place)) ⌝ }
 {
     let map = region(image, v.iblb, v.ibsz);
@@ -89,18 +90,18 @@ fn first_bad_file(image: &[u8], v: Volume) -> Search
             return Search { place: n, single };
         }
         single = single & is_single(image, used, run.lbn);
-        run = next_run(image, v, FileNumber(n), run);
+        run = next_run(image, v, places, FileNumber(n), run);
         n += 1;
     }
     Search { place: n, single }
 }
 
 // The first test that the header of a number does not meet; 0 where the number is not in use, has no slot or its header is whole.
-fn unmet_of(image: &[u8], v: Volume, n: FileNumber) -> u8
-    requires { ⌜ Open (now image) v ⌝ }
+fn unmet_of(image: &[u8], v: Volume, places: &Places, n: FileNumber) -> u8
+    requires { ⌜ Recorded (now image) v (now places) ⌝ }
     ensures { λ r. ⌜ r ≡ unmetOf (now (image .entry)) (n .0) ⌝ }
 {
-    let place = slot_in_use(image, v, n);
+    let place = slot_in_use(image, v, places, n);
     match place {
         Slot::At(lbn) => fault(block(image, lbn.0), v.blocks, n.0),
         Slot::Missing => 0,
@@ -108,11 +109,11 @@ fn unmet_of(image: &[u8], v: Volume, n: FileNumber) -> u8
 }
 
 // FILES.
-pub fn files(image: &[u8], v: Volume) -> FilesJudged
-    requires { ⌜ Open (now image) v ⌝ }
+pub fn files(image: &[u8], v: Volume, places: &Places) -> FilesJudged
+    requires { ⌜ Recorded (now image) v (now places) ⌝ }
     ensures { λ r. ⌜ (r .outcome ≡ files (now (image .entry))) × (files (now (image .entry)) ≡ Passed → r .single ≡ true → Unlinked (now (image .entry))) ⌝ }
 {
-    let search = first_bad_file(image, v);
+    let search = first_bad_file(image, v, places);
     let place = search.place;
     let single = search.single;
     if v.fmax < place {
@@ -121,7 +122,7 @@ pub fn files(image: &[u8], v: Volume) -> FilesJudged
             single,
         };
     }
-    let test = unmet_of(image, v, FileNumber(place));
+    let test = unmet_of(image, v, places, FileNumber(place));
     FilesJudged {
         outcome: Outcome::Refused(Refusal::Files(place, test)),
         single,

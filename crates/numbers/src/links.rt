@@ -17,6 +17,7 @@ use marks::marks::raise;
 use slots::slots::SlotRun;
 use slots::slots::next_run;
 use slots::slots::slot_run;
+use volume::volume::Places;
 use volume::volume::Slot;
 use volume::volume::Volume;
 ghost use mathlib.Core.Path.{_≡_};
@@ -28,7 +29,7 @@ ghost use Rattle.image.specs.Blocks.{block};
 ghost use Rattle.answer.specs.declared.outcome.Outcome.the-variants as outcome;
 ghost use Rattle.header.specs.Fields.{mEfnu};
 ghost use Rattle.volume.specs.Volume.{fmax, inUse};
-ghost use Rattle.volume.specs.Opening.{Open};
+ghost use Rattle.volume.specs.Opening.{Recorded};
 ghost use Rattle.file.specs.Chains.{goodLink};
 ghost use Rattle.marks.specs.Marks.{capped, tallied};
 ghost use Rattle.slots.specs.Slots.{Stands};
@@ -60,8 +61,8 @@ fn link_of(image: &[u8], used: bool, lbn: Lbn) -> u32
 }
 
 // For each header in use, the mark of the number that it links to raised.
-fn raise_links(image: &[u8], v: Volume, headers: &mut [u8])
-    requires { ⌜ Open (now image) v × (files (now image) ≡ outcome.Passed) × (fmax (now image) ≤ length (now headers))
+fn raise_links(image: &[u8], v: Volume, places: &Places, headers: &mut [u8])
+    requires { ⌜ Recorded (now image) v (now places) × (files (now image) ≡ outcome.Passed) × (fmax (now image) ≤ length (now headers))
         × (now headers ≡ tallied [] 1 (fmax (now image)) (now headers)) ⌝ }
     ensures { λ _. ⌜ now (headers .exit) ≡ tallied (linked (now (image .entry))) 1 (fmax (now (image .entry))) (now (headers .entry)) ⌝ }
 {
@@ -71,30 +72,30 @@ fn raise_links(image: &[u8], v: Volume, headers: &mut [u8])
     while n <= v.fmax {
         let used = bit_at(map, (n - 1) as usize) == 1;
         raise_link(headers, v.fmax, link_of(image, used, run.lbn));
-        run = next_run(image, v, FileNumber(n), run);
+        run = next_run(image, v, places, FileNumber(n), run);
         n += 1;
     }
 }
 
 // Counts the links: mark n − 1 is how many headers in use link to n, capped at 2.
-pub fn count_links(image: &[u8], v: Volume, headers: &mut [u8])
-    requires { ⌜ Open (now image) v × (files (now image) ≡ outcome.Passed) × (fmax (now image) ≤ length (now headers)) ⌝ }
+pub fn count_links(image: &[u8], v: Volume, places: &Places, headers: &mut [u8])
+    requires { ⌜ Recorded (now image) v (now places) × (files (now image) ≡ outcome.Passed) × (fmax (now image) ≤ length (now headers)) ⌝ }
     ensures { λ _. ⌜ now (headers .exit) ≡ tallied (linked (now (image .entry))) 1 (fmax (now (image .entry))) (now (headers .entry)) ⌝ }
 {
     clear_first(headers, v.fmax as usize);
-    raise_links(image, v, headers);
+    raise_links(image, v, places, headers);
 }
 
 // Whether header h has a good link. That the header it names is whole FILES has shown.
-fn has_good_link(image: &[u8], v: Volume, h: &[u8]) -> bool
-    requires { ⌜ Open (now image) v × (files (now image) ≡ outcome.Passed) ⌝ }
+fn has_good_link(image: &[u8], v: Volume, places: &Places, h: &[u8]) -> bool
+    requires { ⌜ Recorded (now image) v (now places) × (files (now image) ≡ outcome.Passed) ⌝ }
     ensures { λ r. ⌜ r ≡ goodLink (now (image .entry)) (now (h .entry)) ⌝ }
 {
     let n = m_efnu(h) as u32;
     if n == 0 {
         return true;
     }
-    let place = slot_in_use(image, v, FileNumber(n));
+    let place = slot_in_use(image, v, places, FileNumber(n));
     match place {
         Slot::At(lbn) => {
             let next = block(image, lbn.0);
@@ -112,8 +113,16 @@ fn links_wanted(h: &[u8]) -> u8
 }
 
 // Whether number n offends, by its mark.
-fn is_bad_link(image: &[u8], v: Volume, n: FileNumber, used: bool, run: SlotRun, mark: u8) -> bool
-    requires { ⌜ Open (now image) v × (files (now image) ≡ outcome.Passed) × Stands (now image) (n .0) run
+fn is_bad_link(
+    image: &[u8],
+    v: Volume,
+    places: &Places,
+    n: FileNumber,
+    used: bool,
+    run: SlotRun,
+    mark: u8,
+) -> bool
+    requires { ⌜ Recorded (now image) v (now places) × (files (now image) ≡ outcome.Passed) × Stands (now image) (n .0) run
         × (used ≡ inUse (now image) (n .0)) × (mark ≡ capped (linked (now image)) (n .0)) ⌝ }
     ensures { λ r. ⌜ r ≡ badLinks (now (image .entry)) (linked (now (image .entry))) (n .0) ⌝ }
 {
@@ -124,13 +133,13 @@ fn is_bad_link(image: &[u8], v: Volume, n: FileNumber, used: bool, run: SlotRun,
     if mark != links_wanted(h) {
         return true;
     }
-    let good = has_good_link(image, v, h);
+    let good = has_good_link(image, v, places, h);
     !good
 }
 
 // The lowest number that offends; H.FMAX + 1 where there is none.
-fn first_bad_link(image: &[u8], v: Volume, headers: &[u8]) -> u32
-    requires { ⌜ Open (now image) v × (files (now image) ≡ outcome.Passed) × (fmax (now image) ≤ length (now headers))
+fn first_bad_link(image: &[u8], v: Volume, places: &Places, headers: &[u8]) -> u32
+    requires { ⌜ Recorded (now image) v (now places) × (files (now image) ≡ outcome.Passed) × (fmax (now image) ≤ length (now headers))
         × (now headers ≡ tallied (linked (now image)) 1 (fmax (now image)) (now headers)) ⌝ }
     ensures { λ r. ⌜ r ≡ linksPlace (now (image .entry)) ⌝ }
 {
@@ -140,18 +149,18 @@ fn first_bad_link(image: &[u8], v: Volume, headers: &[u8]) -> u32
     while n <= v.fmax {
         let i = (n - 1) as usize;
         let used = bit_at(map, i) == 1;
-        if is_bad_link(image, v, FileNumber(n), used, run, headers[i]) {
+        if is_bad_link(image, v, places, FileNumber(n), used, run, headers[i]) {
             return n;
         }
-        run = next_run(image, v, FileNumber(n), run);
+        run = next_run(image, v, places, FileNumber(n), run);
         n += 1;
     }
     n
 }
 
 // LINKS, with the counts left in the marks. Where each header in use is known to be the only one of its file, LINKS is passed and the counts are 0.
-pub fn links(image: &[u8], v: Volume, single: bool, headers: &mut [u8]) -> Outcome
-    requires { ⌜ Open (now image) v × (files (now image) ≡ outcome.Passed) × (fmax (now image) ≤ length (now headers))
+pub fn links(image: &[u8], v: Volume, places: &Places, single: bool, headers: &mut [u8]) -> Outcome
+    requires { ⌜ Recorded (now image) v (now places) × (files (now image) ≡ outcome.Passed) × (fmax (now image) ≤ length (now headers))
         × (single ≡ true → Unlinked (now image)) ⌝ }
     ensures { λ r. ⌜ (r ≡ links (now (image .entry)))
         × (now (headers .exit) ≡ tallied (linked (now (image .entry))) 1 (fmax (now (image .entry))) (now (headers .entry))) ⌝ }
@@ -161,8 +170,8 @@ pub fn links(image: &[u8], v: Volume, single: bool, headers: &mut [u8]) -> Outco
         clear_first(headers, numbers);
         return Outcome::Passed;
     }
-    count_links(image, v, headers);
-    let place = first_bad_link(image, v, headers);
+    count_links(image, v, places, headers);
+    let place = first_bad_link(image, v, places, headers);
     if v.fmax < place {
         return Outcome::Passed;
     }

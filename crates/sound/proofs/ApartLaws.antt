@@ -1,17 +1,17 @@
 -- What an image that opens and is sound gives to those who write to it: the blocks of its files are pairwise different, for a header is a
 -- member of one chain, and files 1 and 2 lie where opening the volume found them.
-use mathlib.Core.Path.{_≡_, refl, ap, _∙_}
+use mathlib.Core.Path.{_≡_, refl}
 use mathlib.Core.List.{List}
 use Prim.Native.Nat.{ℕ, _+_, _<_}
 use native.Mathlib.Omega.{arith}
 use lib.ListN.{length, getD}
-use Rattle.header.specs.Fields.{mEfnu}
 use Rattle.header.specs.Pointers.{blocksOf}
 use Rattle.volume.specs.Home.{blocks}
 use Rattle.volume.specs.Volume.{header, ibsz, index, slot, slots}
-use Rattle.volume.proofs.VolumeLaws.{Opens, opens, header-first, storage-size, storage-base}
+use Rattle.volume.proofs.VolumeLaws.{Opens, index-file, opens, storage-size, storage-base}
 use Rattle.file.specs.Chains.{chainOf, fileBlocks}
 use Rattle.file.proofs.ChainLaws.{flat-end}
+use Rattle.file.proofs.IndexFile.{file-index}
 use Rattle.sound.specs.Sound.{Covers, Sound}
 use Rattle.sound.specs.Claims.{IsFile, BlocksApart}
 use Rattle.sound.proofs.CoverLaws.{covers-below}
@@ -51,18 +51,14 @@ module _ (image : List ℕ) (s : Sound image) where
       (q, one-file g i j fg (rw q at l) k (rw q at e))
 
 module _ (image : List ℕ) (o : Opens image) where
-  -- Files 1 and 2 have one header each.
-  pub file-index : fileBlocks image 1 ≡ index image
-  unfolding fileBlocks chainOf index
-  file-index = flat-end (header image) 255 1 (ap mEfnu (header-first o) ∙ o .index-header .last) ∙ ap blocksOf (header-first o)
-
+  -- File 2 has one header.
   pub file-storage : fileBlocks image 2 ≡ blocksOf (header image 2)
   unfolding fileBlocks chainOf
   file-storage = flat-end (header image) 255 2 (o .storage-header .last)
 
   index-length : length (index image) ≡ 2 + ibsz image + slots image
   unfolding slots
-  index-length = omega (arith, o .index-file .long)
+  index-length = omega (arith, index-file o .long)
 
   slot-at : (n : ℕ) → getD (index image) (1 + ibsz image + n) 0 ≡ slot image n
   unfolding slot
@@ -75,9 +71,9 @@ apart image passed s =
       different = file-different image s;
       inside = file-inside image s;
       index-long = rw (file-index image o) (index-length image o);
-      boot = rw (file-index image o) (o .index-file .boot);
-      home = rw (file-index image o) (o .index-file .homed);
-      index-map = λ i l. rw (file-index image o) (o .index-file .row i (omega arith));
+      boot = rw (file-index image o) (index-file o .boot);
+      home = rw (file-index image o) (index-file o .homed);
+      index-map = λ i l. rw (file-index image o) (index-file o .row i (omega arith));
       slot = λ n l h. rw (file-index image o) (slot-at image o n);
       storage-long = rw (file-storage image o) (storage-size o);
       storage-map = λ i l. rw (file-storage image o) (storage-base o i l);

@@ -14,6 +14,7 @@ use Rattle.image.proofs.StoreLaws.{Keeps, keeps-trans, keeps-weaken}
 use Rattle.volume.specs.Home.{blocks}
 use Rattle.volume.specs.Volume.{ibsz, iblb, fmax, slot, slots, header, faultOf, inUse, indexMap, mapBlocks, base, storageMap}
 use Rattle.volume.proofs.VolumeLaws.{slot-below}
+use Rattle.file.specs.Chains.{chainOf}
 use Rattle.marks.specs.Counts.{In}
 use Rattle.marks.proofs.CountLaws.{count-none, count-skip}
 use Rattle.slots.proofs.SlotLaws.{in-use-bit, used-range}
@@ -22,7 +23,7 @@ use Rattle.sound.proofs.ChainLaws.{member-used}
 use Rattle.edits.proofs.FreshLaws.{Fresh}
 use Rattle.update.specs.Writes.{putBlock, usedBit}
 use Rattle.update.specs.Create.{indexBit, withNumber}
-use Rattle.update.proofs.Effects.{Good, Written, Created}
+use Rattle.update.proofs.Effects.{Good, Written, Stays, Created}
 use Rattle.update.proofs.FrameLaws.{slot-clear, maps-apart, numbers-fit, blocks-same, ibsz-same, iblb-same, fmax-same, slot-same, base-same, header-same, fixed-after}
 use Rattle.update.proofs.WriteLaws.{keeps-region, putBlock-block, putBlock-keeps, putBlock-region, putBlock-length, putBlock-bytes, putMapBits-keeps, putMapBits-bytes, putMapBits-bit, putMapBits-rest, used-same}
 
@@ -85,19 +86,22 @@ module _ {image : List ℕ} {n q : ℕ} {h : List ℕ} (c : Creating image n q h
   unfolding withNumber
   create-bytes = putMapBits-bytes a (iblb image) (ibsz image) (indexBit n ∷ []) usedBit map-room (omega arith) a-bytes small
 
+  -- A number in use is another, the index file's among them.
+  used-apart : (k : ℕ) → inUse image k ≡ true → k ≡ n → ⊥
+  used-apart k u e = false≢true (sym (c .was) ∙ ap (inUse image) (sym e) ∙ u)
+
+  index-unused : (k : ℕ) → In k (chainOf image 1) → k ≡ n → ⊥
+  index-unused k m =
+      let known = c .good .sound .known 1 (omega arith) (omega arith) in
+      used-apart k (member-used image (c .good .sound) 1 (record { used = known .used; first = known .first }) k m)
+
   pub create-written : Written image z (λ k. k ≡ n)
   create-written = record {
     good = c .good;
     known = λ k e. rw e (c .low, c .has);
+    apart = λ k e m. index-unused k m e;
     keeps = keeps-weaken (λ k clear. (clear .slots n refl, λ e. clear .index (omega arith) (omega (arith, below)))) create-keeps;
   }
-
-  pub create-header : header z n ≡ h
-  unfolding header
-  create-header =
-      rw (slot-same create-written n)
-      (z-keeps .same (slot image n) (λ e. slot-clear image (c .good) n (omega (arith, c .low)) (c .has) .index (omega arith) (omega (arith, below)))
-      ∙ putBlock-block image (slot image n) h (c .fresh .long) room)
 
   -- The index map: the bit of n is set, and every other stays.
   index-at : indexMap z ≡ region z (iblb image) (ibsz image)
@@ -123,6 +127,19 @@ module _ {image : List ℕ} {n q : ℕ} {h : List ℕ} (c : Creating image n q h
       (putMapBits-rest a (iblb image) (ibsz image) (indexBit n ∷ []) usedBit map-room (omega arith) a-bytes small (k - 1)
       (count-skip (k - 1) (n - 1) [] (λ e. ne (omega (arith, c .low))) ∙ count-none (k - 1)))
 
+  create-used : (k : ℕ) → (k ≡ n → ⊥) → inUse z k ≡ inUse image k
+  create-used k ne = used-same image z (fmax-same create-written) k (λ l high. bit-other k l ne)
+
+  pub create-stays : Stays image z
+  create-stays k m = create-used k (index-unused k m)
+
+  pub create-header : header z n ≡ h
+  unfolding header
+  create-header =
+      rw (slot-same create-written create-stays n)
+      (z-keeps .same (slot image n) (λ e. slot-clear image (c .good) n (omega (arith, c .low)) (c .has) .index (omega arith) (omega (arith, below)))
+      ∙ putBlock-block image (slot image n) h (c .fresh .long) room)
+
   create-is : inUse z n ≡ true
   create-is = in-use-bit z n (omega (arith, c .low)) (omega (arith, c .high, fmax-same create-written)) ∙ eq-eqb (bitAt (indexMap z) (n - 1)) 1 bit-set
 
@@ -130,16 +147,12 @@ module _ {image : List ℕ} {n q : ℕ} {h : List ℕ} (c : Creating image n q h
   storage-same : storageMap z ≡ storageMap image
   unfolding storageMap
   storage-same =
-      ap₂ (λ (b m : ℕ). region z b (mapBlocks m)) (base-same create-written) (blocks-same create-written)
+      ap₂ (λ (b m : ℕ). region z b (mapBlocks m)) (base-same create-written create-stays) (blocks-same create-written)
       ∙ keeps-region create-keeps (base image) (mapBlocks (blocks image))
       (λ i low high. (
         λ e. slot-clear image (c .good) n (omega (arith, c .low)) (c .has) .storage (omega arith) (omega arith),
         λ e. maps-apart image (c .good) i low high (omega arith) (omega (arith, below)),
       ))
-
-  -- A number in use is another.
-  used-apart : (k : ℕ) → inUse image k ≡ true → k ≡ n → ⊥
-  used-apart k u e = false≢true (sym (c .was) ∙ ap (inUse image) (sym e) ∙ u)
 
   pub create-effect : Created image z n
   unfolding faultOf
@@ -148,14 +161,14 @@ module _ {image : List ℕ} {n q : ℕ} {h : List ℕ} (c : Creating image n q h
       let known = c .good .sound .known 3 (omega arith) (omega arith) in
       record {
         fixed =
-            fixed-after w
+            fixed-after w create-stays
             (λ x m. used-apart x (member-used image (c .good .sound) 3 (record { used = known .used; first = known .first }) x m));
         low = c .low;
         has = c .has;
         was = c .was;
         is = create-is;
-        others = λ k ne. used-same image z (fmax-same w) k (λ l high. bit-other k l ne);
-        headers = λ k u. header-same w k (used-range image k u .0) (c .good .sound .slotted k u) (used-apart k u);
+        others = create-used;
+        headers = λ k u. header-same w create-stays k (used-range image k u .0) (c .good .sound .slotted k u) (used-apart k u);
         whole = rw (blocks-same w, create-header) (c .fresh .whole);
         empty = rw create-header (c .fresh .empty);
         unlinked = rw create-header (c .fresh .unlinked);

@@ -26,7 +26,7 @@ use Rattle.edits.specs.Cleared.{clearedSlot}
 use Rattle.update.specs.Writes.{putMapBits, unusedBit, freeBit}
 use Rattle.update.specs.Create.{indexBit}
 use Rattle.update.specs.Delete.{indexBits, slotsOf, clearSlots, withoutNumbers}
-use Rattle.update.proofs.Effects.{Clear, Good, Written, Deleted}
+use Rattle.update.proofs.Effects.{Clear, Good, Written, Stays, Deleted}
 use Rattle.update.proofs.FrameLaws.{slot-clear, maps-apart, numbers-fit, blocks-same, ibsz-same, iblb-same, fmax-same, slot-same, base-same, header-same, fixed-after}
 use Rattle.update.proofs.WriteLaws.{keeps-region, putMapBits-outside, putMapBits-length, putMapBits-keeps, putMapBits-bytes, putMapBits-bit, putMapBits-rest, used-same}
 use Rattle.update.proofs.ClearLaws.{Fit, clear-keeps, clear-bytes, clear-block, clear-map-commute}
@@ -185,6 +185,11 @@ module _ {image : List ℕ} {n : ℕ} (d : Deleting image n) where
       let k = g .sound .known 3 (omega arith) (omega arith) in
       delete-apart 3 (record { used = k .used; first = k .first }) (λ e. omega (arith, d .high))
 
+  pub delete-one : (x : ℕ) → In x (chainOf image 1) → Member x → ⊥
+  delete-one =
+      let k = g .sound .known 1 (omega arith) (omega arith) in
+      delete-apart 1 (record { used = k .used; first = k .first }) (λ e. omega (arith, d .high))
+
   -- The file's blocks lie on the volume, and so the storage map has their bits; the index map has those of the members.
   pub delete-below : (j : ℕ) → In j (fileBlocks image n) → j < blocks image
   delete-below j m =
@@ -245,7 +250,7 @@ module _ {image : List ℕ} {n : ℕ} (d : Deleting image n) where
   }
 
   pub delete-written : Written image z Member
-  delete-written = record { good = g; known = delete-known; keeps = keeps-weaken clear-untouched delete-others }
+  delete-written = record { good = g; known = delete-known; apart = λ k m i. delete-one k i m; keeps = keeps-weaken clear-untouched delete-others }
 
   pub delete-length : length z ≡ length image
   delete-length = delete-others .len
@@ -263,15 +268,6 @@ module _ {image : List ℕ} {n : ℕ} (d : Deleting image n) where
   -- Blocks outside the storage map are those after the slots were cleared.
   outside : Keeps (Outside (base image) (mapBlocks (blocks image))) w z
   outside = keeps-weaken (λ i out j m e. out (omega arith) (omega (arith, storage-small j m))) keeps₃
-
-  pub delete-headers : (k : ℕ) → Member k → header z k ≡ clearedSlot (header image k)
-  unfolding header
-  delete-headers k m =
-      let s = slotted k m in
-      ap (block z) (slot-same delete-written k)
-      ∙ outside .same (slot image k) (slot-clear image g k (s .0) (s .1) .storage)
-      ∙ clear-block (slotsOf image members) a fit a-bytes (slot image k) (slotsOf-in image members k m)
-      ∙ ap clearedSlot (header-index g (indexBits members) unusedBit k (s .0) (s .1))
 
   -- A block that is no slot of a member is none of those that are cleared.
   no-slot : (i : ℕ) → ((k : ℕ) → Member k → i ≡ slot image k → ⊥) → In i (slotsOf image members) → ⊥
@@ -295,10 +291,6 @@ module _ {image : List ℕ} {n : ℕ} (d : Deleting image n) where
       keeps-region keeps₂ (base image) (mapBlocks (blocks image))
       (λ i low high. no-slot i (λ k m e. slot-clear image g k (slotted k m .0) (slotted k m .1) .storage (omega arith) (omega arith)))
       ∙ keeps-region (putMapBits-outside image (iblb image) (ibsz image) (indexBits members) unusedBit (index-fits g)) (base image) (mapBlocks (blocks image)) (maps-apart image g)
-
-  storage-after : storageMap z ≡ region z (base image) (mapBlocks (blocks image))
-  unfolding storageMap
-  storage-after = rw (base-same delete-written, blocks-same delete-written)
 
   -- A member is in use no longer, and every other number as before.
   gone : (k : ℕ) → Member k → inUse z k ≡ false
@@ -324,14 +316,34 @@ module _ {image : List ℕ} {n : ℕ} (d : Deleting image n) where
           absurd (omega (arith, rw e at (r .inside)))
       go low (no p) = omega arith
 
+  pub delete-stays : Stays image z
+  delete-stays k m = others k (none (decLt 0 (count k members)))
+    where
+      none : Dec (0 < count k members) → count k members ≡ 0
+      none (yes p) = absurd (delete-one k m p)
+      none (no p) = omega arith
+
+  pub delete-headers : (k : ℕ) → Member k → header z k ≡ clearedSlot (header image k)
+  unfolding header
+  delete-headers k m =
+      let s = slotted k m in
+      ap (block z) (slot-same delete-written delete-stays k)
+      ∙ outside .same (slot image k) (slot-clear image g k (s .0) (s .1) .storage)
+      ∙ clear-block (slotsOf image members) a fit a-bytes (slot image k) (slotsOf-in image members k m)
+      ∙ ap clearedSlot (header-index g (indexBits members) unusedBit k (s .0) (s .1))
+
+  storage-after : storageMap z ≡ region z (base image) (mapBlocks (blocks image))
+  unfolding storageMap
+  storage-after = rw (base-same delete-written delete-stays, blocks-same delete-written)
+
   -- What delete does.
   pub delete-effect : Deleted image z (chainOf image n)
   unfolding withoutNumbers
   delete-effect = record {
-    fixed = fixed-after delete-written delete-three;
+    fixed = fixed-after delete-written delete-stays delete-three;
     gone = gone;
     used = others;
-    headers = λ k u none. header-same delete-written k (used-range image k u .0) (g .sound .slotted k u) (λ m. omega arith);
+    headers = λ k u none. header-same delete-written delete-stays k (used-range image k u .0) (g .sound .slotted k u) (λ m. omega arith);
     now = λ j m.
         ap (λ (r : List ℕ). bitAt r j) storage-after
         ∙ putMapBits-bit w (base image) (mapBlocks (blocks image)) (flat (header image) members) freeBit w-fits (omega arith) w-bytes storage-small j m;

@@ -30,11 +30,17 @@ pub record Good (image : List ℕ) : Type 0 where
   pub opens : Opens image
   pub sound : Sound image
 
--- A good image is written only in slots of numbers of S, in the index map and in the storage map. S has no known file, and only numbers that have a slot.
+-- A good image is written only in slots of numbers of S, in the index map and in the storage map. S has no known file, only numbers that have a slot,
+-- and none of the index file's.
 pub record Written (image image′ : List ℕ) (S : ℕ → Type 0) : Type 0 where
   pub good : Good image
   pub known : (n : ℕ) → S n → (6 ≤ n) × (n ≤ slots image)
+  pub apart : (n : ℕ) → S n → In n (chainOf image 1) → ⊥
   pub keeps : Keeps (Clear image S) image image′
+
+-- The numbers of the index file's headers are in use after as they were.
+abbrev pub Stays : List ℕ → List ℕ → Type 0
+Stays image image′ = (x : ℕ) → In x (chainOf image 1) → inUse image′ x ≡ inUse image x
 
 -- A file keeps its headers, its blocks and their bytes.
 pub record Kept (image image′ : List ℕ) (f : ℕ) : Type 0 where

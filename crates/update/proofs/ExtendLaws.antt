@@ -34,7 +34,7 @@ use Rattle.edits.proofs.ExtendedLaws.{Extends, extends-is}
 use Rattle.runs.specs.Runs.{isFree, isRun, starts, lowestStart}
 use Rattle.update.specs.Writes.{putMapBits, takenBit}
 use Rattle.update.specs.Extend.{isCount, hasRoom, runStart, hasRun, withBlocks}
-use Rattle.update.proofs.Effects.{Good, Written, Extended}
+use Rattle.update.proofs.Effects.{Good, Written, Stays, Extended}
 use Rattle.update.proofs.ChainSame.{chain-links}
 use Rattle.update.proofs.FrameLaws.{slot-clear, maps-apart, blocks-same, homeIndex-same, ibsz-same, iblb-same, fmax-same, slots-same, slot-same, base-same, header-same}
 use Rattle.update.proofs.WriteLaws.{keeps-region, putBlock-block, putBlock-keeps, putBlock-region, putBlock-bytes, putMapBits-keeps, putMapBits-length, putMapBits-bytes, putMapBits-bit, putMapBits-rest, used-same}
@@ -84,6 +84,7 @@ pub record Extending (image : List ℕ) (n s c : ℕ) : Type 0 where
   pub good : Good image
   pub low : 6 ≤ n
   pub used : inUse image n ≡ true
+  pub apart : In n (chainOf image 1) → ⊥
   pub room : hasRoom (header image n) ≡ true
   pub counted : isCount c ≡ true
   pub fits : s + c ≤ blocks image
@@ -168,12 +169,9 @@ module _ {image : List ℕ} {n s c : ℕ} (x : Extending image n s c) where
   extend-written = record {
     good = x .good;
     known = λ k e. rw e (x .low, has);
+    apart = λ k e m. x .apart (rw e at m);
     keeps = keeps-weaken (λ k clear. (clear .slots n refl, λ j low high e. clear .storage (omega arith) (omega (arith, small j high)))) extend-keeps;
   }
-
-  pub extend-header : header z n ≡ h
-  unfolding header withBlocks
-  extend-header = rw (slot-same extend-written n) (putBlock-block a (slot image n) h (extends .long) slot-room)
 
   -- The index map stays.
   index-same : indexMap z ≡ indexMap image
@@ -186,11 +184,21 @@ module _ {image : List ℕ} {n s c : ℕ} (x : Extending image n s c) where
         λ j l r e. maps-apart image (x .good) i (omega arith) (omega (arith, small j r)) low high,
       ))
 
+  extend-used : (k : ℕ) → inUse z k ≡ inUse image k
+  extend-used k = used-same image z (fmax-same extend-written) k (λ l high. ap (λ (m : List ℕ). bitAt m (k - 1)) index-same)
+
+  pub extend-stays : Stays image z
+  extend-stays k m = extend-used k
+
+  pub extend-header : header z n ≡ h
+  unfolding header withBlocks
+  extend-header = rw (slot-same extend-written extend-stays n) (putBlock-block a (slot image n) h (extends .long) slot-room)
+
   -- The storage map: the bits of the run are clear, and every other stays.
   storage-at : storageMap z ≡ region a (base image) (mapBlocks (blocks image))
   unfolding storageMap withBlocks
   storage-at =
-      ap₂ (λ (b m : ℕ). region z b (mapBlocks m)) (base-same extend-written) (blocks-same extend-written)
+      ap₂ (λ (b m : ℕ). region z b (mapBlocks m)) (base-same extend-written extend-stays) (blocks-same extend-written)
       ∙ putBlock-region a (slot image n) h (extends .long) slot-room (base image) (mapBlocks (blocks image))
       (slot-clear image (x .good) n (omega (arith, x .low)) has .storage)
 
@@ -209,7 +217,7 @@ module _ {image : List ℕ} {n s c : ℕ} (x : Extending image n s c) where
 
   -- Each header in use links as before, and covers at least what it did. So does file 3, and with it the home positions passed over.
   other : (k : ℕ) → inUse image k ≡ true → (k ≡ n → ⊥) → header z k ≡ header image k
-  other k u = header-same extend-written k (used-range image k u .0) (x .good .sound .slotted k u)
+  other k u = header-same extend-written extend-stays k (used-range image k u .0) (x .good .sound .slotted k u)
 
   links : (k : ℕ) → inUse image k ≡ true → mEfnu (header z k) ≡ mEfnu (header image k)
   links k u = go (ℕ-discrete k n)
@@ -242,9 +250,9 @@ module _ {image : List ℕ} {n s c : ℕ} (x : Extending image n s c) where
   extend-effect =
       let w = extend-written in
       record {
-        fixed = record { blocks = blocks-same w; fmax = fmax-same w; slots = slots-same w; passed = λ i l. passed i (rw (homeIndex-same w) at l) };
+        fixed = record { blocks = blocks-same w; fmax = fmax-same w; slots = slots-same w extend-stays; passed = λ i l. passed i (rw (homeIndex-same w) at l) };
         old = x .used;
-        used = λ k. used-same image z (fmax-same w) k (λ l high. ap (λ (m : List ℕ). bitAt m (k - 1)) index-same);
+        used = extend-used;
         headers = other;
         whole = rw (blocks-same w, extend-header) (extends .whole);
         more = rw extend-header (extends .more);

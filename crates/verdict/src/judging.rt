@@ -12,6 +12,7 @@ use marks::marks::count_marked;
 use numbers::files::files;
 use numbers::links::links;
 use volume::opening::open;
+use volume::volume::Places;
 use volume::volume::Volume;
 use volume::volume::map_blocks;
 ghost use mathlib.Core.Path.{_≡_};
@@ -19,11 +20,12 @@ ghost use mathlib.Core.Bool.{_&&_};
 ghost use Prim.Native.Nat.{_≤_};
 ghost use lib.Dec.{leb};
 ghost use lib.ListN.{length};
+ghost use Rattle.image.specs.Stores.{zeros};
 ghost use Rattle.answer.specs.declared.outcome.Outcome.the-variants.{Passed};
 ghost use Rattle.answer.specs.Outcome.{_then_};
 ghost use Rattle.volume.specs.Home.{blocks};
-ghost use Rattle.volume.specs.Volume.{fmax, volumeOf};
-ghost use Rattle.volume.specs.Opening.{Open};
+ghost use Rattle.volume.specs.Volume.{fmax, volumeOf, placesOf};
+ghost use Rattle.volume.specs.Opening.{Open, Recorded};
 ghost use Rattle.marks.specs.Marks.{tallied};
 ghost use Rattle.numbers.specs.Files.{files};
 ghost use Rattle.numbers.specs.Links.{linked, links};
@@ -56,16 +58,16 @@ pub struct JudgedVolume {
 }
 
 // TWICE, BADHOME and MAP, once FILES and LINKS are passed; and the block marks.
-fn judge_blocks(image: &[u8], v: Volume, area: &mut [u8]) -> Outcome
-    requires { ⌜ Open (now image) v × (files (now image) ≡ Passed) × (links (now image) ≡ Passed) × (blocks (now image) ≤ length (now area)) ⌝ }
+fn judge_blocks(image: &[u8], v: Volume, places: &Places, area: &mut [u8]) -> Outcome
+    requires { ⌜ Recorded (now image) v (now places) × (files (now image) ≡ Passed) × (links (now image) ≡ Passed) × (blocks (now image) ≤ length (now area)) ⌝ }
     ensures { λ r. ⌜ (r ≡ (twice (now (image .entry)) then badHome (now (image .entry)) then map (now (image .entry))))
         × (now (area .exit) ≡ tallied (covered (now (image .entry))) 0 (blocks (now (image .entry))) (now (area .entry))) ⌝ }
 {
-    cover(image, v, area);
+    cover(image, v, places, area);
     let once = twice(image, v, area);
     match once {
         Outcome::Passed => {
-            let passed = bad_home(image, v, area);
+            let passed = bad_home(image, v, places, area);
             match passed {
                 Outcome::Passed => map(image, v, area),
                 Outcome::Refused(r) => Outcome::Refused(r),
@@ -76,19 +78,25 @@ fn judge_blocks(image: &[u8], v: Volume, area: &mut [u8]) -> Outcome
 }
 
 // The five rules, in their order; and the marks.
-fn judge_opened(image: &[u8], v: Volume, area: &mut [u8], headers: &mut [u8]) -> Outcome
-    requires { ⌜ Open (now image) v × (blocks (now image) ≤ length (now area)) × (fmax (now image) ≤ length (now headers)) ⌝ }
+fn judge_opened(
+    image: &[u8],
+    v: Volume,
+    places: &Places,
+    area: &mut [u8],
+    headers: &mut [u8],
+) -> Outcome
+    requires { ⌜ Recorded (now image) v (now places) × (blocks (now image) ≤ length (now area)) × (fmax (now image) ≤ length (now headers)) ⌝ }
     ensures { λ r. ⌜ (r ≡ (files (now (image .entry)) then links (now (image .entry)) then twice (now (image .entry)) then badHome (now (image .entry)) then map (now (image .entry))))
         × (now (area .exit) ≡ afterwards (files (now (image .entry)) then links (now (image .entry))) (now (area .entry)) (tallied (covered (now (image .entry))) 0 (blocks (now (image .entry))) (now (area .entry))))
         × (now (headers .exit) ≡ afterwards (files (now (image .entry))) (now (headers .entry)) (tallied (linked (now (image .entry))) 1 (fmax (now (image .entry))) (now (headers .entry)))) ⌝ }
 {
-    let f = files(image, v);
+    let f = files(image, v, places);
     let numbered = f.outcome;
     match numbered {
         Outcome::Passed => {
-            let chained = links(image, v, f.single, headers);
+            let chained = links(image, v, places, f.single, headers);
             match chained {
-                Outcome::Passed => judge_blocks(image, v, area),
+                Outcome::Passed => judge_blocks(image, v, places, area),
                 Outcome::Refused(r) => Outcome::Refused(r),
             }
         }
@@ -106,20 +114,27 @@ fn is_roomy(v: Volume, area: usize, headers: usize) -> bool
     (v.fmax as usize) <= headers
 }
 
-// Opens a volume and judges it.
-pub fn judge_volume(image: &[u8], area: &mut [u8], headers: &mut [u8]) -> JudgedVolume
+// Opens a volume and judges it. The places of the volume record are left in the array lent for them.
+pub fn judge_volume(
+    image: &[u8],
+    places: &mut Places,
+    area: &mut [u8],
+    headers: &mut [u8],
+) -> JudgedVolume
+    requires { ⌜ now places ≡ zeros 256 ⌝ }
     ensures { λ r. ⌜ (r .outcome ≡ verdict (now (image .entry)) (length (now (area .entry))) (length (now (headers .entry))))
         × (verdict (now (image .entry)) (length (now (area .entry))) (length (now (headers .entry))) ≡ Passed → r .volume ≡ volumeOf (now (image .entry)))
         × (now (area .exit) ≡ blockMarks (now (image .entry)) (now (area .entry)) (now (headers .entry)))
-        × (now (headers .exit) ≡ headerMarks (now (image .entry)) (now (area .entry)) (now (headers .entry))) ⌝ }
+        × (now (headers .exit) ≡ headerMarks (now (image .entry)) (now (area .entry)) (now (headers .entry)))
+        × (verdict (now (image .entry)) (length (now (area .entry))) (length (now (headers .entry))) ≡ Passed → now (places .exit) ≡ placesOf (now (image .entry))) ⌝ }
 {
-    let o = open(image);
+    let o = open(image, places);
     let opened = o.outcome;
     let v = o.volume;
     match opened {
         Outcome::Passed => {
             if is_roomy(v, area.len(), headers.len()) {
-                let outcome = judge_opened(image, v, area, headers);
+                let outcome = judge_opened(image, v, places, area, headers);
                 JudgedVolume { outcome, volume: v }
             } else {
                 JudgedVolume {
@@ -157,7 +172,8 @@ pub fn judge(image: &[u8], area: &mut [u8], headers: &mut [u8]) -> Judged
         × (now (area .exit) ≡ blockMarks (now (image .entry)) (now (area .entry)) (now (headers .entry)))
         × (now (headers .exit) ≡ headerMarks (now (image .entry)) (now (area .entry)) (now (headers .entry))) ⌝ }
 {
-    let j = judge_volume(image, area, headers);
+    let mut places = [0u32; 256];
+    let j = judge_volume(image, &mut places, area, headers);
     let result = j.outcome;
     match result {
         Outcome::Passed => Judged::Done(count(image, j.volume, area)),

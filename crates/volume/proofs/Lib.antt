@@ -1,3 +1,6 @@
 pub mod HomeLaws
+pub mod IndexLaws
+pub mod IndexSame
 pub mod OpeningLaws
 pub mod VolumeLaws
+pub mod WalkLaws

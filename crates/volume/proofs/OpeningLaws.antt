@@ -23,8 +23,8 @@ use Rattle.header.proofs.PointerLaws.{runs-none, runs-length, runs-at}
 use Rattle.volume.specs.Home.{blocks, positions, homeIndex, home}
 use Rattle.volume.proofs.HomeLaws.{position-below}
 use Rattle.volume.specs.declared.opening.OpenVolume.{OpenVolume}
-use Rattle.volume.specs.Volume.{ibsz, iblb, fmax, volumeOf}
-use Rattle.volume.specs.Opening.{sized, homed, indexMapBlocks, geometry, indexLbn, indexAt, indexMapped, indexed, storageMapped, stored, openVolume}
+use Rattle.volume.specs.Volume.{ibsz, iblb, fmax}
+use Rattle.volume.specs.Opening.{sized, homed, indexMapBlocks, geometry, indexLbn, indexAt, indexMapped, indexed, storageMapped, stored, openVolume, TellsVolume}
 
 -- Three tests in a row.
 pub three : (a b c : Bool) → (a && b && c) ≡ true → (a ≡ true) × (b ≡ true) × (c ≡ true)
@@ -60,9 +60,8 @@ module _ (image : List ℕ) where
       block-length image (home image) (omega (arith, n .0, home-inside (n .1) (ltb-true (homeIndex image) (positions (blocks image)) h)))
 
 -- A refusal, and what a volume is then said to be.
-pub open-refused : (image : List ℕ) (r : Refusal) (o : OpenVolume) → o .outcome ≡ Refused r → openVolume image ≡ Refused r
-    → (o .outcome ≡ openVolume image) × (openVolume image ≡ Passed → o .volume ≡ volumeOf image)
-open-refused image r o e f = (e ∙ sym f, λ p. absurd (refused-not r (sym f ∙ p)))
+pub open-refused : (image : List ℕ) (r : Refusal) (o : OpenVolume) (at : List ℕ) → o .outcome ≡ Refused r → openVolume image ≡ Refused r → TellsVolume image o at
+open-refused image r o at e f = (e ∙ sym f, λ p. absurd (refused-not r (sym f ∙ p)), λ p. absurd (refused-not r (sym f ∙ p)))
 
 -- What opening answers, by the first test that is not met.
 module _ (image : List ℕ) where

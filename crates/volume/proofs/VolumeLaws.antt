@@ -1,39 +1,47 @@
 -- What an image that opens is known to have.
-use mathlib.Core.Path.{_≡_, sym, ap, _∙_}
-use mathlib.Core.Bool.{true, _&&_, and-eq-true-iff}
-use mathlib.Core.List.{List}
-use native.Mathlib.Numerals.{add-one}
+use mathlib.Core.Path.{_≡_, refl, sym, ap, subst, _∙_}
+use mathlib.Core.Bool.{Bool, true, _&&_, and-eq-true-iff}
+use mathlib.Core.List.{List, _++_}
 use Prim.Native.Nat.{ℕ, zero, suc, _+_, _*_, _-_, _≤_, _<_}
 use native.Mathlib.Decide.{decLt}
 use native.Mathlib.Omega.{arith}
 use borrow.Author.Tests.{eqb-true, leb-true, ltb-true, eq-eqb, le-leb, lt-leb, lt-ltb}
 use lib.Dec.{eqb, leb}
-use lib.ListN.{length, getD}
+use lib.ListN.{length, getD, take, length-append, List·getD-append}
+use lib.Seq.{getD-take}
 use Rattle.image.specs.Words.{byteAt, Bytes}
 use Rattle.image.specs.Blocks.{block}
 use Rattle.image.specs.First.{below}
 use Rattle.image.proofs.Below.{below-at, below-all}
 use Rattle.image.proofs.WordLaws.{word-below}
 use Rattle.image.proofs.BlockLaws.{region-length, block-length, block-bytes}
+use Rattle.answer.specs.declared.types.Lbn.{Lbn}
 use Rattle.answer.specs.declared.refusal.Refusal.the-variants as refusal
 use Rattle.answer.specs.declared.outcome.Outcome.the-variants.{Passed}
 use Rattle.answer.proofs.OutcomeLaws.{passed-last, passed-first}
-use Rattle.header.specs.Fields.{hFseq, mapArea, segment, mEfnu, mUse}
-use Rattle.header.specs.Pointers.{pointerCount, runs, pointersAt, pointers, Fits, blocksOf, placeIn}
+use Rattle.header.specs.Fields.{hFseq, segment, mEfnu}
+use Rattle.header.specs.Pointers.{Fits, blocksOf, placeIn}
 use Rattle.header.specs.declared.pointers.Place.{Place}
 use Rattle.header.specs.declared.pointers.Place.the-variants as place
 use Rattle.header.specs.Whole.{fault}
-use Rattle.header.proofs.PointerLaws.{place-at, place-past, runs-none, runs-length}
+use Rattle.header.proofs.PointerLaws.{place-at, place-past}
 use Rattle.header.proofs.WholeLaws.{whole-fits, whole-inside}
 use Rattle.volume.specs.Home.{hFmax, blocks, positions, homeIndex, home}
-use Rattle.volume.specs.Volume.{ibsz, iblb, fmax, indexHeader, index, slot, slots, hasSlot, slotOf, header, indexMap, mapBlocks, base, storageMap, volumeOf}
+use Rattle.volume.specs.Volume.{ibsz, iblb, fmax, indexHeader, places, index, indexEnds, placesOf, slot, slots, hasSlot, slotOf, header, indexMap, mapBlocks, base, storageMap, volumeOf}
 use Rattle.volume.specs.declared.volume.Volume.{Volume}
 use Rattle.volume.specs.declared.volume.Slot.{Slot}
 use Rattle.volume.specs.declared.volume.Slot.the-variants.{At, Missing}
-use Rattle.volume.specs.Opening.{sized, homed, indexMapBlocks, geometry, alone, indexLbn, indexAt, indexMapped, indexed, storageMapped, stored, openVolume, Laid}
+use Rattle.volume.specs.Opening.{sized, homed, indexMapBlocks, geometry, heads, alone, indexLbn, indexAt, indexMapped, indexed, storageMapped, stored, openVolume, Mapped, FirstFit, Recorded, Laid}
+use Rattle.volume.proofs.IndexLaws.{AllLie, lies-fits, mapped-inside, places-lie, places-least, places-most, further, index-split, index-most, padded-take, padded-length}
 use Rattle.volume.proofs.OpeningLaws.{open-passed, three, sized-is, geometry-is, home-inside, indexLbn-boot, indexLbn-home, indexLbn-row, storage-long, storage-row}
 
--- A header that stands alone: whole, of its number and sequence, segment 0, without extension.
+-- A header that heads a file: whole, of its number and sequence, segment 0.
+pub record Heads (total n : ℕ) (h : List ℕ) : Type 0 where
+  pub whole : fault total n h ≡ 0
+  pub sequence : hFseq h ≡ n
+  pub first : segment h ≡ 0
+
+-- A header that stands alone: it has no extension either.
 pub record Alone (total n : ℕ) (h : List ℕ) : Type 0 where
   pub whole : fault total n h ≡ 0
   pub sequence : hFseq h ≡ n
@@ -56,28 +64,43 @@ pub record Opens (image : List ℕ) : Type 0 where
   pub enough : 16 ≤ fmax image
   pub maps : ibsz image ≡ indexMapBlocks (fmax image)
   pub fits : iblb image + ibsz image + 16 ≤ blocks image
-  pub index-header : Alone (blocks image) 1 (indexHeader image)
-  pub index-file : Index (home image) (iblb image) (ibsz image) (index image)
+  pub index-header : Heads (blocks image) 1 (indexHeader image)
+  pub index-first : Index (home image) (iblb image) (ibsz image) (blocksOf (indexHeader image))
+  pub index-ends : indexEnds image ≡ true
   pub storage-header : Alone (blocks image) 2 (header image 2)
   pub shape : storageMapped (mapBlocks (blocks image)) (header image 2) ≡ true
   pub control : byteAt (block image (getD (blocksOf (header image 2)) 0 0)) 3 ≡ mapBlocks (blocks image)
 
-pub alone-gives : (total n : ℕ) (h : List ℕ) → alone total n h ≡ true → Alone total n h
-unfolding alone
-alone-gives total n h t =
-    let s = and-eq-true-iff (eqb (fault total n h) 0 && eqb (hFseq h) n && eqb (segment h) 0) (eqb (mEfnu h) 0) .0 t in
-    let r = three (eqb (fault total n h) 0) (eqb (hFseq h) n) (eqb (segment h) 0) (s .0) in
+pub heads-gives : (total n : ℕ) (h : List ℕ) → heads total n h ≡ true → Heads total n h
+unfolding heads
+heads-gives total n h t =
+    let r = three (eqb (fault total n h) 0) (eqb (hFseq h) n) (eqb (segment h) 0) t in
     record {
       whole = eqb-true (fault total n h) 0 (r .0);
       sequence = eqb-true (hFseq h) n (r .1);
       first = eqb-true (segment h) 0 (r .2);
+    }
+
+pub heads-holds : (total n : ℕ) (h : List ℕ) → Heads total n h → heads total n h ≡ true
+unfolding heads
+heads-holds total n h a = rw (eq-eqb (fault total n h) 0 (a .whole), eq-eqb (hFseq h) n (a .sequence), eq-eqb (segment h) 0 (a .first))
+
+pub alone-gives : (total n : ℕ) (h : List ℕ) → alone total n h ≡ true → Alone total n h
+unfolding alone
+alone-gives total n h t =
+    let s = and-eq-true-iff (heads total n h) (eqb (mEfnu h) 0) .0 t in
+    let r = heads-gives total n h (s .0) in
+    record {
+      whole = r .whole;
+      sequence = r .sequence;
+      first = r .first;
       last = eqb-true (mEfnu h) 0 (s .1);
     }
 
 pub alone-holds : (total n : ℕ) (h : List ℕ) → Alone total n h → alone total n h ≡ true
 unfolding alone
 alone-holds total n h a =
-    rw (eq-eqb (fault total n h) 0 (a .whole), eq-eqb (hFseq h) n (a .sequence), eq-eqb (segment h) 0 (a .first), eq-eqb (mEfnu h) 0 (a .last))
+    rw (heads-holds total n h (record { whole = a .whole; sequence = a .sequence; first = a .first })) (eq-eqb (mEfnu h) 0 (a .last))
 
 pub index-gives : (home iblb m : ℕ) (lbns : List ℕ) → indexMapped home iblb m lbns ≡ true → Index home iblb m lbns
 unfolding indexMapped indexAt
@@ -106,11 +129,25 @@ index-holds home iblb m lbns f =
         rw e (f .row i (omega arith) ∙ omega (arith, indexLbn-row home iblb (2 + i) (omega arith)))
 
 -- Header 1 and header 2 as the tests have them.
-pub indexed-gives : (image : List ℕ) → indexed image ≡ true → Alone (blocks image) 1 (indexHeader image) × Index (home image) (iblb image) (ibsz image) (index image)
+pub indexed-gives : (image : List ℕ) → indexed image ≡ true
+    → Heads (blocks image) 1 (indexHeader image) × Index (home image) (iblb image) (ibsz image) (blocksOf (indexHeader image)) × (indexEnds image ≡ true)
 unfolding indexed
 indexed-gives image t =
-    let r = and-eq-true-iff (alone (blocks image) 1 (indexHeader image)) (indexMapped (home image) (iblb image) (ibsz image) (index image)) .0 t in
-    (alone-gives (blocks image) 1 (indexHeader image) (r .0), index-gives (home image) (iblb image) (ibsz image) (index image) (r .1))
+    let b = blocksOf (indexHeader image) in
+    let r = three (heads (blocks image) 1 (indexHeader image)) (indexMapped (home image) (iblb image) (ibsz image) b) (indexEnds image) t in
+    (heads-gives (blocks image) 1 (indexHeader image) (r .0), index-gives (home image) (iblb image) (ibsz image) b (r .1), r .2)
+
+-- The index file begins with what its first segment maps.
+pub index-longer : (home iblb m : ℕ) (a b : List ℕ) → Index home iblb m a → Index home iblb m (a ++ b)
+index-longer home iblb m a b f = record {
+  long = omega (arith, f .long, length-append a b);
+  boot = List·getD-append a b 0 0 (omega (arith, f .long)) ∙ f .boot;
+  homed = List·getD-append a b 0 1 (omega (arith, f .long)) ∙ f .homed;
+  row = λ i l. List·getD-append a b 0 (2 + i) (omega (arith, f .long)) ∙ f .row i l;
+}
+
+pub index-whole : (image : List ℕ) → Index (home image) (iblb image) (ibsz image) (blocksOf (indexHeader image)) → Index (home image) (iblb image) (ibsz image) (index image)
+index-whole image f = rw (index-split image) (index-longer (home image) (iblb image) (ibsz image) (blocksOf (indexHeader image)) (further image) f)
 
 pub stored-gives : (image : List ℕ) → stored image ≡ true
     → Alone (blocks image) 2 (header image 2)
@@ -143,7 +180,8 @@ opens image e =
       maps = lay .1;
       fits = lay .2;
       index-header = file .0;
-      index-file = file .1;
+      index-first = file .1;
+      index-ends = file .2;
       storage-header = map .0;
       shape = map .1;
       control = map .2;
@@ -158,7 +196,7 @@ opens-all image o =
     (rw (eq-eqb (length image) (512 * n) (o .size), le-leb 100 n (o .least), le-leb n 1044480 (o .most)))
     (lt-ltb (homeIndex image) (positions n) (o .found))
     (rw (le-leb 16 (fmax image) (o .enough), eq-eqb (ibsz image) (indexMapBlocks (fmax image)) (o .maps), le-leb (iblb image + ibsz image + 16) n (o .fits)))
-    (rw (alone-holds n 1 (indexHeader image) (o .index-header)) (index-holds (home image) (iblb image) (ibsz image) (index image) (o .index-file)))
+    (rw (heads-holds n 1 (indexHeader image) (o .index-header), index-holds (home image) (iblb image) (ibsz image) (blocksOf (indexHeader image)) (o .index-first)) (o .index-ends))
     (rw (alone-holds n 2 (header image 2) (o .storage-header), o .shape) (eq-eqb (byteAt (block image (getD (blocksOf (header image 2)) 0 0)) 3) (mapBlocks n) (o .control)))
 
 -- The slots of the first sixteen numbers.
@@ -179,13 +217,24 @@ module _ (image : List ℕ) (v : Volume) (l : Laid image v) where
   unfolding indexHeader
   laid-header1 = rw (l .iblb, l .ibsz)
 
-  pub laid-indexed : (alone (v .blocks) 1 (indexHeader image) && indexMapped (v .home) (v .iblb) (v .ibsz) (blocksOf (indexHeader image))) ≡ indexed image
-  unfolding indexed index
-  laid-indexed = rw (l .blocks, l .home, l .iblb, l .ibsz)
+  -- Header 1 is as it must be, but for the chain.
+  abbrev pub begins : Bool
+  begins = heads (blocks image) 1 (indexHeader image) && indexMapped (home image) (iblb image) (ibsz image) (blocksOf (indexHeader image))
+
+  pub laid-begins : (heads (v .blocks) 1 (indexHeader image) && indexMapped (v .home) (v .iblb) (v .ibsz) (blocksOf (indexHeader image))) ≡ begins
+  laid-begins = rw (l .blocks, l .home, l .iblb, l .ibsz)
+
+  pub laid-indexed : (begins && indexEnds image) ≡ indexed image
+  unfolding indexed
+  laid-indexed = refl
+
+  pub laid-mapped : sized image ≡ true → geometry image ≡ true → Mapped image
+  unfolding indexMapBlocks
+  laid-mapped s g = (omega (arith, geometry-is image g), omega (arith, geometry-is image g, sized-is image s))
 
   pub laid-header2 : indexed image ≡ true → block image (v .iblb + v .ibsz + 1) ≡ header image 2
   unfolding header
-  laid-header2 t = ap (block image) (omega (arith, l .iblb, l .ibsz, index-slot image (indexed-gives image t .1) 2 (omega arith) (omega arith)))
+  laid-header2 t = ap (block image) (omega (arith, l .iblb, l .ibsz, index-slot image (index-whole image (indexed-gives image t .1)) 2 (omega arith) (omega arith)))
 
   pub laid-stored : (alone (v .blocks) 2 (header image 2)
       && storageMapped (mapBlocks (v .blocks)) (header image 2)
@@ -197,21 +246,31 @@ module _ {image : List ℕ} (o : Opens image) where
   pub home-below : home image < blocks image
   home-below = home-inside image (o .least) (o .found)
 
+  pub index-file : Index (home image) (iblb image) (ibsz image) (index image)
+  index-file = index-whole image (o .index-first)
+
   pub slot-first : (n : ℕ) → 1 ≤ n → n ≤ 16 → slot image n ≡ iblb image + ibsz image + (n - 1)
-  slot-first = index-slot image (o .index-file)
+  slot-first = index-slot image index-file
 
   pub header-first : header image 1 ≡ indexHeader image
   unfolding header indexHeader
   header-first = ap (block image) (slot-first 1 (omega arith) (omega arith) ∙ omega arith)
 
   -- Every block of the index file, and so every slot, lies on the volume.
+  pub headers-lie : AllLie image (places image)
+  unfolding indexHeader
+  headers-lie = places-lie image (record { number = 1; whole = o .index-header .whole; low = omega (arith, o .fits) })
+
+  pub headers-fit : FirstFit image (places image) (length (places image))
+  headers-fit j l = lies-fits image (o .size) (getD (places image) j 0) (headers-lie j l)
+
   pub index-below : (i : ℕ) → i < length (index image) → getD (index image) i 0 < blocks image
   unfolding index
-  index-below = whole-inside (blocks image) 1 (indexHeader image) (o .index-header .whole)
+  index-below = mapped-inside image (places image) headers-lie
 
   pub slot-below : (n : ℕ) → 1 ≤ n → n ≤ slots image → slot image n < blocks image
   unfolding slot slots
-  slot-below n l h = index-below (1 + ibsz image + n) (omega (arith, o .index-file .long))
+  slot-below n l h = index-below (1 + ibsz image + n) (omega (arith, index-file .long))
 
   pub header-length : (n : ℕ) → 1 ≤ n → n ≤ slots image → length (header image n) ≡ 512
   unfolding header
@@ -220,7 +279,7 @@ module _ {image : List ℕ} (o : Opens image) where
   -- At least sixteen numbers have a slot.
   pub slots-least : 16 ≤ slots image
   unfolding slots
-  slots-least = omega (arith, o .index-file .long)
+  slots-least = omega (arith, index-file .long)
 
   pub indexHeader-length : length (indexHeader image) ≡ 512
   unfolding indexHeader
@@ -250,19 +309,13 @@ module _ {image : List ℕ} (o : Opens image) where
   unfolding storageMap
   storageMap-length = region-length image (base image) (mapBlocks (blocks image)) (omega (arith, o .size, base-fits))
 
+  pub opens-mapped : Mapped image
+  unfolding indexMapBlocks
+  opens-mapped = (omega (arith, o .maps), omega (arith, o .size, o .fits))
+
   pub indexMap-length : length (indexMap image) ≡ 512 * ibsz image
   unfolding indexMap
   indexMap-length = region-length image (iblb image) (ibsz image) (omega (arith, o .size, o .fits))
-
--- How many blocks a header can cover.
-runs-most : (h : List ℕ) (at p : ℕ) → Bytes h → length (runs h at p) ≤ 256 * p
-unfolding pointerCount
-runs-most h at zero bytes = omega (arith, ap length (runs-none h at))
-runs-most h at (suc p) bytes = rw (← add-one p) (omega (arith, runs-most h at p bytes, runs-length h at p, bytes .each (at + 4 * p + 1)))
-
-pub blocksOf-most : (h : List ℕ) → Bytes h → length (blocksOf h) ≤ 32512
-unfolding blocksOf pointers mUse
-blocksOf-most h bytes = omega (arith, runs-most h (pointersAt h) (pointers h) bytes, bytes .each (mapArea h + 8))
 
 pub fmax-below : (image : List ℕ) → Bytes image → fmax image < 65536
 unfolding fmax hFmax
@@ -283,16 +336,44 @@ pub says-base : (image : List ℕ) (v : Volume) → v ≡ volumeOf image → v .
 unfolding volumeOf
 says-base image v e = ap (λ (v : Volume). v .base) e
 
-pub says-all : (image : List ℕ) (v : Volume) → Laid image v → v .base ≡ base image → v ≡ volumeOf image
+pub says-segments : (image : List ℕ) (v : Volume) → v ≡ volumeOf image → v .segments ≡ length (places image)
 unfolding volumeOf
-says-all image v s e = λ i. record {
+says-segments image v e = ap (λ (v : Volume). v .segments) e
+
+pub says-all : (image : List ℕ) (v : Volume) → Laid image v → v .base ≡ base image → v .segments ≡ length (places image) → v ≡ volumeOf image
+unfolding volumeOf
+says-all image v s e f = λ i. record {
   blocks = s .blocks i;
   home = s .home i;
   ibsz = s .ibsz i;
   iblb = s .iblb i;
   fmax = s .fmax i;
   base = e i;
+  segments = f i;
 }
+
+-- Where the index file's headers lie, by the volume record.
+module _ (image : List ℕ) (v : Volume) (at : List ℕ) (r : Recorded image v at) where
+  pub segments-least : 1 ≤ v .segments
+  segments-least = omega (arith, says-segments image v (r .1), places-least image)
+
+  pub segments-most : v .segments ≤ 256
+  segments-most = omega (arith, says-segments image v (r .1), places-most image)
+
+  pub places-long : length at ≡ 256
+  unfolding placesOf
+  places-long = rw (r .2) (padded-length (places image) (places-most image))
+
+  pub places-first : take (v .segments) at ≡ places image
+  unfolding placesOf
+  places-first = rw (r .2) (padded-take (places image) (v .segments) (sym (says-segments image v (r .1))))
+
+  pub place-read : (k : ℕ) → k < v .segments → (k < length (places image)) × (getD at k 0 ≡ getD (places image) k 0)
+  place-read k l =
+      (omega (arith, says-segments image v (r .1)), sym (getD-take (v .segments) at k 0 l) ∙ ap (λ (ls : List ℕ). getD ls k 0) places-first)
+
+  pub places-fit : FirstFit image at (v .segments)
+  places-fit j l = let here = place-read j l in rw (here .1) (headers-fit (opens image (r .0)) j (here .0))
 
 -- The slot of a number by its place in the index file.
 abbrev pub slotIn : Place → Slot
@@ -307,10 +388,18 @@ slot-place image o n i e = go (decLt i (length (index image)))
     go (yes l) =
         rw (place-at (index image) i l, le-leb n (length (index image) - (2 + ibsz image)) (omega arith), e)
     go (no l) =
-        rw (place-past (index image) i (omega arith), lt-leb n (length (index image) - (2 + ibsz image)) (omega (arith, o .index-file .long)))
+        rw (place-past (index image) i (omega arith), lt-leb n (length (index image) - (2 + ibsz image)) (omega (arith, index-file o .long)))
 
--- A header can cover 32,512 blocks, so no higher number has a slot.
-pub slot-none : (image : List ℕ) → Bytes image → (n : ℕ) → 32512 < n → slotOf image n ≡ Missing
-unfolding slotOf hasSlot slots index indexHeader
-slot-none image bytes n l =
-    rw (lt-leb n (slots image) (omega (arith, blocksOf-most (indexHeader image) (block-bytes image (iblb image + ibsz image) bytes))))
+-- 256 headers can cover 8,323,072 blocks, so no higher number has a slot.
+pub slot-none : (image : List ℕ) → Bytes image → (n : ℕ) → 8323072 < n → slotOf image n ≡ Missing
+unfolding slotOf hasSlot slots
+slot-none image bytes n l = rw (lt-leb n (slots image) (omega (arith, index-most image bytes)))
+
+-- What is known of a number that has a slot by the slot that was found for it.
+abbrev pub IsSlot : List ℕ → ℕ → Slot → Type 0
+IsSlot image n (At lbn) = lbn .0 ≡ slot image n
+IsSlot image n Missing = ⊥
+
+pub slot-is : (image : List ℕ) (n : ℕ) → hasSlot image n ≡ true → (s : Slot) → slotOf image n ≡ s → IsSlot image n s
+unfolding slotOf
+slot-is image n has s e = subst (IsSlot image n) e (rw has refl)

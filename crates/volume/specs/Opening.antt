@@ -1,8 +1,8 @@
 -- Opening a volume: SIZE, HOME, GEOMETRY, INDEX, STORAGE, in this order.
 use mathlib.Core.Path.{_≡_}
-use mathlib.Core.Bool.{Bool, cond, _&&_, _||_}
+use mathlib.Core.Bool.{Bool, true, cond, not, _&&_, _||_}
 use mathlib.Core.List.{List}
-use Prim.Native.Nat.{ℕ, _+_, _*_, _-_, _/_}
+use Prim.Native.Nat.{ℕ, _+_, _*_, _-_, _/_, _≤_, _<_}
 use lib.Dec.{eqb, leb, ltb}
 use lib.ListN.{length, getD}
 use Rattle.image.specs.Words.{byteAt}
@@ -13,11 +13,12 @@ use Rattle.answer.specs.declared.outcome.Outcome.{Outcome}
 use Rattle.answer.specs.declared.outcome.Outcome.the-variants as outcome
 use Rattle.answer.specs.Outcome.{unless, _then_}
 use Rattle.header.specs.Fields.{hFseq, segment, mEfnu}
-use Rattle.header.specs.Pointers.{pointerCount, pointersAt, pointers, blocksOf}
+use Rattle.header.specs.Pointers.{pointerCount, pointersAt, pointers, Fits, blocksOf}
 use Rattle.header.specs.Whole.{fault}
 use Rattle.volume.specs.Home.{blocks, positions, homeIndex, home}
-use Rattle.volume.specs.Volume.{ibsz, iblb, fmax, indexHeader, index, header, mapBlocks, volumeOf}
+use Rattle.volume.specs.Volume.{ibsz, iblb, fmax, indexHeader, places, indexEnds, padded, placesOf, header, mapBlocks, volumeOf}
 use Rattle.volume.specs.declared.volume.Volume.{Volume}
+use Rattle.volume.specs.declared.opening.OpenVolume.{OpenVolume}
 use Rattle.volume.specs.declared.opening.Opened.{Opened}
 use Rattle.volume.specs.declared.opening.Opened.the-variants.{Done, Refused}
 
@@ -37,10 +38,13 @@ indexMapBlocks n = (n + 4095) / 4096
 unfoldable pub geometry : List ℕ → Bool
 geometry image = leb 16 (fmax image) && eqb (ibsz image) (indexMapBlocks (fmax image)) && leb (iblb image + ibsz image + 16) (blocks image)
 
--- 01, Index file and Storage map file: "whole, ID 1,1, segment 0, without extension"; "whole, ID 2,2, segment 0, no extension". Header h is so
--- for number n.
+-- 01, Index file and Storage map file: "whole, ID 1,1, segment 0"; "whole, ID 2,2, segment 0". Header h is so for number n.
+unfoldable pub heads : ℕ → ℕ → List ℕ → Bool
+heads blocks n h = eqb (fault blocks n h) 0 && eqb (hFseq h) n && eqb (segment h) 0
+
+-- 01, Storage map file: "no extension".
 unfoldable pub alone : ℕ → ℕ → List ℕ → Bool
-alone blocks n h = eqb (fault blocks n h) 0 && eqb (hFseq h) n && eqb (segment h) 0 && eqb (mEfnu h) 0
+alone blocks n h = heads blocks n h && eqb (mEfnu h) 0
 
 -- 01, Index file: "Its VBN 1 maps to LBN 0, VBN 2 to the home, VBN 3 to m+18 to H.IBLB onward." The LBN of block i, from 0.
 unfoldable pub indexLbn : ℕ → ℕ → ℕ → ℕ
@@ -54,9 +58,13 @@ indexAt home iblb lbns i = eqb (getD lbns i 0) (indexLbn home iblb i)
 unfoldable pub indexMapped : ℕ → ℕ → ℕ → List ℕ → Bool
 indexMapped home iblb m lbns = leb (m + 18) (length lbns) && below (m + 18) (indexAt home iblb lbns)
 
--- 01, Index file: "It must be whole, ID 1,1, segment 0, without extension (house). Its VBN 1 maps to .."
+-- 01, Index file: "It must be whole, ID 1,1, segment 0". 02, 9/14: "The first segment must still map VBN 1 to m+18. Refusals: INDEX also for a bad
+-- link or a slot not yet mapped; no longer for an extension as such."
 unfoldable pub indexed : List ℕ → Bool
-indexed image = alone (blocks image) 1 (indexHeader image) && indexMapped (home image) (iblb image) (ibsz image) (index image)
+indexed image =
+    heads (blocks image) 1 (indexHeader image)
+    && indexMapped (home image) (iblb image) (ibsz image) (blocksOf (indexHeader image))
+    && indexEnds image
 
 -- 01, Storage map file: "maps exactly 1+q blocks, .. by one pointer, or by two of which the first maps one block".
 unfoldable pub storageMapped : ℕ → List ℕ → Bool
@@ -87,9 +95,33 @@ openedVolume (outcome.Refused r) home = Refused r
 unfoldable pub volumeAnswer : List ℕ → Opened
 volumeAnswer image = openedVolume (openVolume image) (home image)
 
--- The image opens, and v is what calls on it need to know.
+-- The index map has a bit for every number, and lies in the image.
+abbrev pub Mapped : List ℕ → Type 0
+Mapped image = (fmax image ≤ 4096 * ibsz image) × (512 * (iblb image + ibsz image) ≤ length image)
+
+-- The headers at the first k of these LBNs have their pointers in them.
+abbrev pub FirstFit : List ℕ → List ℕ → ℕ → Type 0
+FirstFit image at k = (j : ℕ) → j < k → Fits (block image (getD at j 0))
+
+-- What a walk along the index file's headers comes to: how many they are and where they lie, and 0 where a link is bad.
+abbrev pub Walked : List ℕ → ℕ → List ℕ → Type 0
+Walked image count at =
+    (eqb count 0 ≡ not (indexEnds image)) × (indexEnds image ≡ true → (count ≡ length (places image)) × (at ≡ padded (places image)))
+
+-- The image opens, and v is what calls on it need to know, but for the places of the index file's headers.
 abbrev pub Open : List ℕ → Volume → Type 0
 Open image v = (openVolume image ≡ outcome.Passed) × (v ≡ volumeOf image)
+
+-- The image opens, and v and at are the two parts of its volume record.
+abbrev pub Recorded : List ℕ → Volume → List ℕ → Type 0
+Recorded image v at = (openVolume image ≡ outcome.Passed) × (v ≡ volumeOf image) × (at ≡ placesOf image)
+
+-- What opening tells: its outcome and, where that is passed, the volume record.
+abbrev pub TellsVolume : List ℕ → OpenVolume → List ℕ → Type 0
+TellsVolume image o at =
+    (o .outcome ≡ openVolume image)
+    × (openVolume image ≡ outcome.Passed → o .volume ≡ volumeOf image)
+    × (openVolume image ≡ outcome.Passed → at ≡ placesOf image)
 
 -- What v says of the image, but for the storage map.
 pub record Laid (image : List ℕ) (v : Volume) : Type 0 where

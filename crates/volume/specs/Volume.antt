@@ -1,12 +1,14 @@
--- What an image says of its volume: the index file, the slots of file headers, which numbers are in use, and the storage map.
--- "Slot" and "in use" are 01's words.
+-- What an image says of its volume: which numbers are in use, the index file, the slots of file headers, and the storage map.
+-- "Slot" and "in use" are 01's words; "place" and "segment" of an index file's header are 02's.
 use mathlib.Core.Bool.{Bool, cond, _&&_}
-use mathlib.Core.List.{List}
-use Prim.Native.Nat.{ℕ, _+_, _-_, _/_}
+use mathlib.Core.List.{List, [], _∷_, _++_}
+use Prim.Native.Nat.{ℕ, zero, suc, _+_, _-_, _/_}
 use lib.Dec.{eqb, leb}
 use lib.ListN.{length, getD}
 use Rattle.image.specs.Blocks.{region, block}
 use Rattle.image.specs.Bits.{bitAt}
+use Rattle.image.specs.Stores.{zeros}
+use Rattle.header.specs.Fields.{hFseq, segment, mEfnu, mEfsq}
 use Rattle.header.specs.Pointers.{blocksOf}
 use Rattle.header.specs.Whole.{fault}
 use Rattle.volume.specs.Home.{hIbsz, hIblb, hFmax, blocks, home}
@@ -24,21 +26,71 @@ iblb image = hIblb (block image (home image))
 unfoldable pub fmax : List ℕ → ℕ
 fmax image = hFmax (block image (home image))
 
+-- 01, Index file: "index map"; it is the m blocks from H.IBLB on.
+unfoldable pub indexMap : List ℕ → List ℕ
+indexMap image = region image (iblb image) (ibsz image)
+
+-- 01, Index file: "Number n, from 1 to H.FMAX only, is in use when index map bit n−1 is set."
+unfoldable pub inUse : List ℕ → ℕ → Bool
+inUse image n = leb 1 n && leb n (fmax image) && eqb (bitAt (indexMap image) (n - 1)) 1
+
 -- 01, Index file: "Header 1 lies at LBN H.IBLB + m."
 unfoldable pub indexHeader : List ℕ → List ℕ
 indexHeader image = block image (iblb image + ibsz image)
 
--- The blocks of the index file, in the order of their VBNs.
+-- 01, Index file: "The slot of file n is VBN 2+m+n". Its LBN in a part of the index file that begins with VBN 1, given by its LBNs in order.
+abbrev pub partSlot : ℕ → List ℕ → ℕ → ℕ
+partSlot m part n = getD part (1 + m + n) 0
+
+-- 01, Index file: "past the mapped blocks n has no slot". How many numbers have one in such a part.
+abbrev pub partSlots : ℕ → List ℕ → ℕ
+partSlots m part = length part - (2 + m)
+
+-- 01, The header: M.EFNU of h "names a number .., whole, with H.FSEQ = M.EFSQ and a segment number one higher". Header next is such a one.
+unfoldable pub follows : ℕ → List ℕ → List ℕ → Bool
+follows blocks h next = eqb (fault blocks (mEfnu h) next) 0 && eqb (hFseq next) (mEfsq h) && eqb (segment next) (segment h + 1)
+
+-- 01, The header: M.EFNU "names a number in use with a slot, ..". 02, 9/14: "The header of each further segment must have its slot in the part that
+-- earlier segments map." Header h of the index file leads on to a further segment; part is what the segments up to h map.
+unfoldable pub leadsOn : List ℕ → List ℕ → List ℕ → Bool
+leadsOn image part h =
+    inUse image (mEfnu h)
+    && leb (mEfnu h) (partSlots (ibsz image) part)
+    && follows (blocks image) h (block image (partSlot (ibsz image) part (mEfnu h)))
+
+-- The LBNs of the index file's headers from the one at an LBN on, at most f of them, as far as they lead on; part is what the headers before it map.
+unfoldable pub placesFrom : List ℕ → ℕ → List ℕ → ℕ → List ℕ
+placesFrom image zero part at = []
+placesFrom image (suc f) part at =
+    let h = block image at in
+    let more = part ++ blocksOf h in
+    let on = placesFrom image f more (partSlot (ibsz image) more (mEfnu h)) in
+    at ∷ cond (leadsOn image more h) on []
+
+-- 02, 9/14: "the places of all headers in the chain of file 1". 01, The header: "A chain thus ends within 256 headers."
+unfoldable pub places : List ℕ → List ℕ
+places image = placesFrom image 256 [] (iblb image + ibsz image)
+
+-- The LBNs that the headers at these places map, in order.
+unfoldable pub mappedBy : List ℕ → List ℕ → List ℕ
+mappedBy image [] = []
+mappedBy image (at ∷ on) = blocksOf (block image at) ++ mappedBy image on
+
+-- The blocks of the index file, in the order of their VBNs. 02, 9/14: "Slots, verdict and all calls read the long map."
 unfoldable pub index : List ℕ → List ℕ
-index image = blocksOf (indexHeader image)
+index image = mappedBy image (places image)
+
+-- 02, 9/14: "INDEX also for a bad link or a slot not yet mapped". The last header that is led to has no further one, so no link is bad.
+unfoldable pub indexEnds : List ℕ → Bool
+indexEnds image = eqb (mEfnu (block image (getD (places image) (length (places image) - 1) 0))) 0
 
 -- 01, Index file: "The slot of file n is VBN 2+m+n". Its LBN.
 unfoldable pub slot : List ℕ → ℕ → ℕ
-slot image n = getD (index image) (1 + ibsz image + n) 0
+slot image n = partSlot (ibsz image) (index image) n
 
 -- 01, Index file: "past the mapped blocks n has no slot". How many numbers have one.
 unfoldable pub slots : List ℕ → ℕ
-slots image = length (index image) - (2 + ibsz image)
+slots image = partSlots (ibsz image) (index image)
 
 unfoldable pub hasSlot : List ℕ → ℕ → Bool
 hasSlot image n = leb n (slots image)
@@ -54,14 +106,6 @@ header image n = block image (slot image n)
 -- The first test that the header in the slot of n does not meet, 0 where it is whole for n.
 unfoldable pub faultOf : List ℕ → ℕ → ℕ
 faultOf image n = fault (blocks image) n (header image n)
-
--- 01, Index file: "index map"; it is the m blocks from H.IBLB on.
-unfoldable pub indexMap : List ℕ → List ℕ
-indexMap image = region image (iblb image) (ibsz image)
-
--- 01, Index file: "Number n, from 1 to H.FMAX only, is in use when index map bit n−1 is set."
-unfoldable pub inUse : List ℕ → ℕ → Bool
-inUse image n = leb 1 n && leb n (fmax image) && eqb (bitAt (indexMap image) (n - 1)) 1
 
 -- In use, and has a slot.
 unfoldable pub isNumber : List ℕ → ℕ → Bool
@@ -79,7 +123,15 @@ base image = getD (blocksOf (header image 2)) 1 0
 unfoldable pub storageMap : List ℕ → List ℕ
 storageMap image = region image (base image) (mapBlocks (blocks image))
 
--- What calls on an opened volume need to know of it.
+-- Places with room for 256: 0 past the last.
+unfoldable pub padded : List ℕ → List ℕ
+padded places = places ++ zeros (256 - length places)
+
+-- 02, 9/14: "The volume record now carries the places of all headers in the chain of file 1." The record has two parts; this is the one with the places.
+unfoldable pub placesOf : List ℕ → List ℕ
+placesOf image = padded (places image)
+
+-- The other part: what else calls on an opened volume need to know of it, the number of those headers among it.
 unfoldable pub volumeOf : List ℕ → Volume
 volumeOf image = record {
   blocks = blocks image;
@@ -88,4 +140,5 @@ volumeOf image = record {
   iblb = iblb image;
   fmax = fmax image;
   base = base image;
+  segments = length (places image);
 }

@@ -4,6 +4,8 @@ use crate::home::h_iblb;
 use crate::home::h_ibsz;
 use crate::home::home_index;
 use crate::home::position;
+use crate::index::headers_of;
+use crate::volume::Places;
 use crate::volume::Volume;
 use crate::volume::map_blocks;
 use answer::outcome::Outcome;
@@ -28,12 +30,13 @@ ghost use lib.Dec.{eqb, leb};
 ghost use lib.ListN.{length, getD};
 ghost use Rattle.image.specs.Words.{byteAt};
 ghost use Rattle.image.specs.Blocks.{block};
+ghost use Rattle.image.specs.Stores.{zeros};
 ghost use Rattle.answer.specs.declared.outcome.Outcome.the-variants as outcome;
 ghost use Rattle.image.specs.First.{below};
 ghost use Rattle.header.specs.Pointers.{Fits, blocksOf};
 ghost use Rattle.volume.specs.Home.{hIbsz, hIblb, hFmax, blocks, home};
-ghost use Rattle.volume.specs.Volume.{mapBlocks, volumeOf};
-ghost use Rattle.volume.specs.Opening.{sized, homed, indexMapBlocks, geometry, indexLbn, alone, indexMapped, storageMapped, openVolume, volumeAnswer, Laid};
+ghost use Rattle.volume.specs.Volume.{mapBlocks};
+ghost use Rattle.volume.specs.Opening.{sized, homed, indexMapBlocks, geometry, indexLbn, heads, alone, indexMapped, storageMapped, volumeAnswer, Laid, TellsVolume};
 
 // The answer of opening a volume.
 pub enum Opened {
@@ -59,6 +62,7 @@ fn refused(r: Refusal) -> OpenVolume
         iblb: 0,
         fmax: 0,
         base: 0,
+        segments: 0,
     };
     OpenVolume {
         outcome: Outcome::Refused(r),
@@ -136,10 +140,10 @@ fn is_index_run(lbn: u32, c: u32, home: u32, iblb: u32, k: u32) -> bool
     true
 }
 
-// Whether a header is that of number n, sequence n, segment 0, whole and without extension, on a volume of so many blocks.
-fn is_alone(h: &[u8], blocks: u32, n: u32) -> bool
+// Whether a header is that of number n, sequence n, segment 0, and whole, on a volume of so many blocks.
+fn is_head(h: &[u8], blocks: u32, n: u32) -> bool
     requires { ⌜ length (now h) ≡ 512 ⌝ }
-    ensures { λ r. ⌜ r ≡ alone blocks n (now (h .entry)) ⌝ }
+    ensures { λ r. ⌜ r ≡ heads blocks n (now (h .entry)) ⌝ }
 {
     let test = fault(h, blocks, n);
     if test != 0 {
@@ -147,8 +151,19 @@ fn is_alone(h: &[u8], blocks: u32, n: u32) -> bool
     }
     let fseq = h_fseq(h);
     let number = segment(h);
-    let efnu = m_efnu(h);
-    ((fseq as u32) == n) & (number == 0) & (efnu == 0)
+    ((fseq as u32) == n) & (number == 0)
+}
+
+// Whether it is so, and without extension.
+fn is_alone(h: &[u8], blocks: u32, n: u32) -> bool
+    requires { ⌜ length (now h) ≡ 512 ⌝ }
+    ensures { λ r. ⌜ r ≡ alone blocks n (now (h .entry)) ⌝ }
+{
+    let head = is_head(h, blocks, n);
+    if !head {
+        return false;
+    }
+    m_efnu(h) == 0
 }
 
 // The lesser of two numbers.
@@ -203,13 +218,13 @@ fn is_storage_mapped(h: &[u8], q: u32) -> bool
     true
 }
 
-// Whether header 1 is the index file's, on a volume of so many blocks.
+// Whether header 1 is the index file's first, on a volume of so many blocks.
 fn is_indexed(h: &[u8], blocks: u32, home: u32, iblb: u32, m: u32) -> bool
     requires { ⌜ (length (now h) ≡ 512) × (iblb < 2 ^ 31) × (m < 2 ^ 30) ⌝ }
-    ensures { λ r. ⌜ r ≡ (alone blocks 1 (now (h .entry)) && indexMapped home iblb m (blocksOf (now (h .entry)))) ⌝ }
+    ensures { λ r. ⌜ r ≡ (heads blocks 1 (now (h .entry)) && indexMapped home iblb m (blocksOf (now (h .entry)))) ⌝ }
 {
-    let alone = is_alone(h, blocks, 1);
-    if !alone {
+    let head = is_head(h, blocks, 1);
+    if !head {
         return false;
     }
     is_index_mapped(h, home, iblb, m)
@@ -237,14 +252,17 @@ fn is_stored(image: &[u8], h: &[u8], blocks: u32) -> bool
 }
 
 // Opens a volume of which all but the storage map is known.
-fn open_laid_out(image: &[u8], v: Volume) -> OpenVolume
-    requires { ⌜ (sized (now image) ≡ true) × (homed (now image) ≡ true) × (geometry (now image) ≡ true) × Laid (now image) v ⌝ }
-    ensures { λ r. ⌜ (r .outcome ≡ openVolume (now (image .entry)))
-        × (openVolume (now (image .entry)) ≡ outcome.Passed → r .volume ≡ volumeOf (now (image .entry))) ⌝ }
+fn open_laid_out(image: &[u8], v: Volume, places: &mut Places) -> OpenVolume
+    requires { ⌜ (sized (now image) ≡ true) × (homed (now image) ≡ true) × (geometry (now image) ≡ true) × Laid (now image) v × (now places ≡ zeros 256) ⌝ }
+    ensures { λ r. ⌜ TellsVolume (now (image .entry)) r (now (places .exit)) ⌝ }
 {
     let h1 = block(image, v.iblb + v.ibsz);
     let indexed = is_indexed(h1, v.blocks, v.home, v.iblb, v.ibsz);
     if !indexed {
+        return refused(Refusal::Index);
+    }
+    let segments = headers_of(image, v, h1, places);
+    if segments == 0 {
         return refused(Refusal::Index);
     }
     let h2 = block(image, v.iblb + v.ibsz + 1);
@@ -253,25 +271,24 @@ fn open_laid_out(image: &[u8], v: Volume) -> OpenVolume
         return refused(Refusal::Storage);
     }
     let base = lbn_in(h2, 1);
-    let volume = Volume {
-        blocks: v.blocks,
-        home: v.home,
-        ibsz: v.ibsz,
-        iblb: v.iblb,
-        fmax: v.fmax,
-        base,
-    };
     OpenVolume {
         outcome: Outcome::Passed,
-        volume,
+        volume: Volume {
+            blocks: v.blocks,
+            home: v.home,
+            ibsz: v.ibsz,
+            iblb: v.iblb,
+            fmax: v.fmax,
+            base,
+            segments,
+        },
     }
 }
 
 // Opens a volume of n blocks whose home lies at a known LBN.
-fn open_at(image: &[u8], n: u32, at: u32) -> OpenVolume
-    requires { ⌜ (sized (now image) ≡ true) × (homed (now image) ≡ true) × (n ≡ blocks (now image)) × (at ≡ home (now image)) ⌝ }
-    ensures { λ r. ⌜ (r .outcome ≡ openVolume (now (image .entry)))
-        × (openVolume (now (image .entry)) ≡ outcome.Passed → r .volume ≡ volumeOf (now (image .entry))) ⌝ }
+fn open_at(image: &[u8], n: u32, at: u32, places: &mut Places) -> OpenVolume
+    requires { ⌜ (sized (now image) ≡ true) × (homed (now image) ≡ true) × (n ≡ blocks (now image)) × (at ≡ home (now image)) × (now places ≡ zeros 256) ⌝ }
+    ensures { λ r. ⌜ TellsVolume (now (image .entry)) r (now (places .exit)) ⌝ }
 {
     let b = block(image, at);
     let fit = has_geometry(b, n);
@@ -290,14 +307,16 @@ fn open_at(image: &[u8], n: u32, at: u32) -> OpenVolume
             iblb,
             fmax,
             base: 0,
+            segments: 0,
         },
+        places,
     )
 }
 
-// Opens a volume.
-pub fn open(image: &[u8]) -> OpenVolume
-    ensures { λ r. ⌜ (r .outcome ≡ openVolume (now (image .entry)))
-        × (openVolume (now (image .entry)) ≡ outcome.Passed → r .volume ≡ volumeOf (now (image .entry))) ⌝ }
+// Opens a volume. Where it opens, the volume record is what is answered and, in the array lent for them, the places of the index file's headers.
+pub fn open(image: &[u8], places: &mut Places) -> OpenVolume
+    requires { ⌜ now places ≡ zeros 256 ⌝ }
+    ensures { λ r. ⌜ TellsVolume (now (image .entry)) r (now (places .exit)) ⌝ }
 {
     let sized = is_sized(image);
     if !sized {
@@ -308,14 +327,15 @@ pub fn open(image: &[u8]) -> OpenVolume
     if (blocks + 255) / 256 <= i {
         return refused(Refusal::Home);
     }
-    open_at(image, blocks, position(i))
+    open_at(image, blocks, position(i), places)
 }
 
 // The answer of opening a volume.
 pub fn open_volume(image: &[u8]) -> Opened
     ensures { λ r. ⌜ r ≡ volumeAnswer (now (image .entry)) ⌝ }
 {
-    let o = open(image);
+    let mut places = [0u32; 256];
+    let o = open(image, &mut places);
     let result = o.outcome;
     match result {
         Outcome::Passed => Opened::Done(Lbn(o.volume.home)),

@@ -1,17 +1,21 @@
 // An opened volume: slots of file headers, and which file numbers are in use.
+use crate::index::place_among;
 use answer::types::FileNumber;
 use answer::types::Lbn;
 use header::pointers::Place;
-use header::pointers::place_of;
 use image::bits::bit_at;
-use image::blocks::block;
 use image::blocks::region;
 ghost use mathlib.Core.Path.{_≡_};
+ghost use mathlib.Core.Bool.{true};
 ghost use Prim.Native.Nat.{_≤_};
-ghost use Rattle.volume.specs.Volume.{slotOf, inUse, mapBlocks};
-ghost use Rattle.volume.specs.Opening.{Open};
+ghost use Rattle.volume.specs.Volume.{ibsz, iblb, fmax, slot, hasSlot, slotOf, inUse, mapBlocks};
+ghost use Rattle.volume.specs.Opening.{Mapped, Open, Recorded};
 
-// What calls on an opened volume need to know of it.
+// The other part of the volume record: the LBN of each header of the index file, in the order of their segments; 0 past the last. It is large, so
+// it is lent to the calls that look for a slot, and never copied.
+pub type Places = [u32; 256];
+
+// The part of the volume record that goes by value: what calls on an opened volume need to know of it.
 pub struct Volume {
     // N, the number of blocks.
     pub blocks: u32,
@@ -25,6 +29,8 @@ pub struct Volume {
     pub fmax: u32,
     // The LBN of the storage map's bits.
     pub base: u32,
+    // How many headers the index file has.
+    pub segments: usize,
 }
 
 // Where the header of a file number lies.
@@ -40,9 +46,9 @@ pub fn map_blocks(blocks: u32) -> u32
     (((blocks as u64) + 4095) / 4096) as u32
 }
 
-// Whether a file number is in use.
-pub fn is_in_use(image: &[u8], v: Volume, n: FileNumber) -> bool
-    requires { ⌜ Open (now image) v ⌝ }
+// Whether a file number is in use, by H.FMAX, H.IBLB and H.IBSZ alone.
+pub(crate) fn is_marked(image: &[u8], most: u32, from: u32, m: u32, n: FileNumber) -> bool
+    requires { ⌜ (most ≡ fmax (now image)) × (from ≡ iblb (now image)) × (m ≡ ibsz (now image)) × Mapped (now image) ⌝ }
     ensures { λ r. ⌜ r ≡ inUse (now (image .entry)) (n .0) ⌝ }
 {
     let number = n.0;
@@ -50,26 +56,45 @@ pub fn is_in_use(image: &[u8], v: Volume, n: FileNumber) -> bool
         return false;
     }
     let bit = number - 1;
-    if v.fmax <= bit {
+    if most <= bit {
         return false;
     }
-    let map = region(image, v.iblb, v.ibsz);
+    let map = region(image, from, m);
     bit_at(map, bit as usize) == 1
 }
 
-// The slot of a file number; none past the blocks of the index file.
-pub fn slot_of(image: &[u8], v: Volume, n: FileNumber) -> Slot
+// Whether a file number is in use.
+pub fn is_in_use(image: &[u8], v: Volume, n: FileNumber) -> bool
     requires { ⌜ Open (now image) v ⌝ }
+    ensures { λ r. ⌜ r ≡ inUse (now (image .entry)) (n .0) ⌝ }
+{
+    is_marked(image, v.fmax, v.iblb, v.ibsz, n)
+}
+
+// The slot of a file number; none past the blocks of the index file, which are at most 8,323,072: 256 headers of 32,512.
+pub fn slot_of(image: &[u8], v: Volume, places: &Places, n: FileNumber) -> Slot
+    requires { ⌜ Recorded (now image) v (now places) ⌝ }
     ensures { λ r. ⌜ r ≡ slotOf (now (image .entry)) (n .0) ⌝ }
 {
     let number = n.0;
-    if 32512 < number {
+    if 8323072 < number {
         return Slot::Missing;
     }
-    let h = block(image, v.iblb + v.ibsz);
-    let place = place_of(h, 1 + v.ibsz + number);
+    let place = place_among(image, places, v.segments, 1 + v.ibsz + number);
     match place {
         Place::At(l) => Slot::At(l),
         Place::Past(_) => Slot::Missing,
+    }
+}
+
+// The LBN of the slot of a file number that has one.
+pub fn slot_at(image: &[u8], v: Volume, places: &Places, n: FileNumber) -> Lbn
+    requires { ⌜ Recorded (now image) v (now places) × (hasSlot (now image) (n .0) ≡ true) ⌝ }
+    ensures { λ r. ⌜ r .0 ≡ slot (now (image .entry)) (n .0) ⌝ }
+{
+    let place = slot_of(image, v, places, n);
+    match place {
+        Slot::At(lbn) => lbn,
+        Slot::Missing => Lbn(0),
     }
 }

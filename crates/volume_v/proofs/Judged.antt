@@ -12,8 +12,8 @@ use Rattle.header.specs.Fields.{hIdof, hMpof, hFnum, hFseq, hFlev, userFlags, s
 use Rattle.header.specs.Pointers.{pointerLbn, pointerCount, run, runs, pointersAt, pointers, blocksOf}
 use Rattle.header.specs.Whole.{endsInside, linkTests, mapTests, tests, firstUnmet, fault}
 use Rattle.volume.specs.Home.{hIbsz, hIblb, hFmax, hSbcl, hVlev, label, labelAt, isHome, blocks, position, positions, homeAt, homeIndex, home}
-use Rattle.volume.specs.Volume.{ibsz, iblb, fmax, indexHeader, index, slot, slots, hasSlot, header, faultOf, indexMap, inUse, isNumber, mapBlocks, base, storageMap}
-use Rattle.volume.specs.Opening.{sized, homed, indexMapBlocks, geometry, alone, indexLbn, indexAt, indexMapped, indexed, storageMapped, stored, openVolume}
+use Rattle.volume.specs.Volume.{ibsz, iblb, fmax, indexHeader, follows, leadsOn, placesFrom, places, mappedBy, index, indexEnds, slot, slots, hasSlot, header, faultOf, indexMap, inUse, isNumber, mapBlocks, base, storageMap}
+use Rattle.volume.specs.Opening.{sized, homed, indexMapBlocks, geometry, heads, alone, indexLbn, indexAt, indexMapped, indexed, storageMapped, stored, openVolume}
 use Rattle.file.specs.Chains.{linksOn, goodLink, chain, chainOf, every, linkOf, goodChain, flat, fileBlocks}
 use Rattle.volume_v.specs.VolumeV.{words, join, homeBlock, indexMapBlock, headerBlock, endOfFile, storageMapBlock, directoryBlock, volumeV}
 use Rattle.marks.specs.Counts.{count}
@@ -25,13 +25,13 @@ use Rattle.covers.specs.Homes.{leftOut, badHomeIndex, badHome}
 use Rattle.verdict.specs.Verdict.{roomy, ready, verdict}
 
 pub size : blocks volumeV ≡ 100
-unfolding first below wordAt region block bitOf bitAt wordSum checksum zeros numbersFrom unless _then_ hIdof hMpof hFnum hFseq hFlev userFlags systemFlags mapArea segment mErvn mEfnu mEfsq mCtsz mLbsz mUse mMax pointerLbn pointerCount run runs pointersAt pointers blocksOf endsInside linkTests mapTests tests firstUnmet fault hIbsz hIblb hFmax hSbcl hVlev label labelAt isHome blocks position positions homeAt homeIndex home ibsz iblb fmax indexHeader index slot slots hasSlot header faultOf indexMap inUse isNumber mapBlocks base storageMap sized homed indexMapBlocks geometry alone indexLbn indexAt indexMapped indexed storageMapped stored openVolume linksOn goodLink chain chainOf every linkOf goodChain flat fileBlocks words join homeBlock indexMapBlock headerBlock endOfFile storageMapBlock directoryBlock volumeV count gathered isKnown badFile filesPlace files linkList linked linksWanted badLinks linksPlace links covered coveredTwice twicePlace twice mapBits wrongBit mapPlace map leftOut badHomeIndex badHome roomy ready verdict
+unfolding first below wordAt region block bitOf bitAt wordSum checksum zeros numbersFrom unless _then_ hIdof hMpof hFnum hFseq hFlev userFlags systemFlags mapArea segment mErvn mEfnu mEfsq mCtsz mLbsz mUse mMax pointerLbn pointerCount run runs pointersAt pointers blocksOf endsInside linkTests mapTests tests firstUnmet fault hIbsz hIblb hFmax hSbcl hVlev label labelAt isHome blocks position positions homeAt homeIndex home ibsz iblb fmax indexHeader follows leadsOn placesFrom places mappedBy index indexEnds slot slots hasSlot header faultOf indexMap inUse isNumber mapBlocks base storageMap sized homed indexMapBlocks geometry heads alone indexLbn indexAt indexMapped indexed storageMapped stored openVolume linksOn goodLink chain chainOf every linkOf goodChain flat fileBlocks words join homeBlock indexMapBlock headerBlock endOfFile storageMapBlock directoryBlock volumeV count gathered isKnown badFile filesPlace files linkList linked linksWanted badLinks linksPlace links covered coveredTwice twicePlace twice mapBits wrongBit mapPlace map leftOut badHomeIndex badHome roomy ready verdict
 size = refl
 
 pub numbers : fmax volumeV ≡ 16
-unfolding first below wordAt region block bitOf bitAt wordSum checksum zeros numbersFrom unless _then_ hIdof hMpof hFnum hFseq hFlev userFlags systemFlags mapArea segment mErvn mEfnu mEfsq mCtsz mLbsz mUse mMax pointerLbn pointerCount run runs pointersAt pointers blocksOf endsInside linkTests mapTests tests firstUnmet fault hIbsz hIblb hFmax hSbcl hVlev label labelAt isHome blocks position positions homeAt homeIndex home ibsz iblb fmax indexHeader index slot slots hasSlot header faultOf indexMap inUse isNumber mapBlocks base storageMap sized homed indexMapBlocks geometry alone indexLbn indexAt indexMapped indexed storageMapped stored openVolume linksOn goodLink chain chainOf every linkOf goodChain flat fileBlocks words join homeBlock indexMapBlock headerBlock endOfFile storageMapBlock directoryBlock volumeV count gathered isKnown badFile filesPlace files linkList linked linksWanted badLinks linksPlace links covered coveredTwice twicePlace twice mapBits wrongBit mapPlace map leftOut badHomeIndex badHome roomy ready verdict
+unfolding first below wordAt region block bitOf bitAt wordSum checksum zeros numbersFrom unless _then_ hIdof hMpof hFnum hFseq hFlev userFlags systemFlags mapArea segment mErvn mEfnu mEfsq mCtsz mLbsz mUse mMax pointerLbn pointerCount run runs pointersAt pointers blocksOf endsInside linkTests mapTests tests firstUnmet fault hIbsz hIblb hFmax hSbcl hVlev label labelAt isHome blocks position positions homeAt homeIndex home ibsz iblb fmax indexHeader follows leadsOn placesFrom places mappedBy index indexEnds slot slots hasSlot header faultOf indexMap inUse isNumber mapBlocks base storageMap sized homed indexMapBlocks geometry heads alone indexLbn indexAt indexMapped indexed storageMapped stored openVolume linksOn goodLink chain chainOf every linkOf goodChain flat fileBlocks words join homeBlock indexMapBlock headerBlock endOfFile storageMapBlock directoryBlock volumeV count gathered isKnown badFile filesPlace files linkList linked linksWanted badLinks linksPlace links covered coveredTwice twicePlace twice mapBits wrongBit mapPlace map leftOut badHomeIndex badHome roomy ready verdict
 numbers = refl
 
 pub computed : verdict volumeV 100 16 ≡ Passed
-unfolding first below wordAt region block bitOf bitAt wordSum checksum zeros numbersFrom unless _then_ hIdof hMpof hFnum hFseq hFlev userFlags systemFlags mapArea segment mErvn mEfnu mEfsq mCtsz mLbsz mUse mMax pointerLbn pointerCount run runs pointersAt pointers blocksOf endsInside linkTests mapTests tests firstUnmet fault hIbsz hIblb hFmax hSbcl hVlev label labelAt isHome blocks position positions homeAt homeIndex home ibsz iblb fmax indexHeader index slot slots hasSlot header faultOf indexMap inUse isNumber mapBlocks base storageMap sized homed indexMapBlocks geometry alone indexLbn indexAt indexMapped indexed storageMapped stored openVolume linksOn goodLink chain chainOf every linkOf goodChain flat fileBlocks words join homeBlock indexMapBlock headerBlock endOfFile storageMapBlock directoryBlock volumeV count gathered isKnown badFile filesPlace files linkList linked linksWanted badLinks linksPlace links covered coveredTwice twicePlace twice mapBits wrongBit mapPlace map leftOut badHomeIndex badHome roomy ready verdict
+unfolding first below wordAt region block bitOf bitAt wordSum checksum zeros numbersFrom unless _then_ hIdof hMpof hFnum hFseq hFlev userFlags systemFlags mapArea segment mErvn mEfnu mEfsq mCtsz mLbsz mUse mMax pointerLbn pointerCount run runs pointersAt pointers blocksOf endsInside linkTests mapTests tests firstUnmet fault hIbsz hIblb hFmax hSbcl hVlev label labelAt isHome blocks position positions homeAt homeIndex home ibsz iblb fmax indexHeader follows leadsOn placesFrom places mappedBy index indexEnds slot slots hasSlot header faultOf indexMap inUse isNumber mapBlocks base storageMap sized homed indexMapBlocks geometry heads alone indexLbn indexAt indexMapped indexed storageMapped stored openVolume linksOn goodLink chain chainOf every linkOf goodChain flat fileBlocks words join homeBlock indexMapBlock headerBlock endOfFile storageMapBlock directoryBlock volumeV count gathered isKnown badFile filesPlace files linkList linked linksWanted badLinks linksPlace links covered coveredTwice twicePlace twice mapBits wrongBit mapPlace map leftOut badHomeIndex badHome roomy ready verdict
 computed = refl

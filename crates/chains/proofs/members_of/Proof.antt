@@ -10,14 +10,15 @@ use Rattle.header.specs.Fields.{mEfnu}
 use Rattle.volume.specs.Volume.{slot, header}
 use Rattle.file.proofs.LinkLaws.{Linked}
 use Rattle.chains.proofs.MemberLaws.{Gathers, gathers-start, gathers-room, gathers-end, gathers-linked, gathers-next}
+use Rattle.file.proofs.NumberLaws.{number-slot}
 use Rattle.chains.proofs.members_of.Statement.{statement}
 use Rattle.chains.proofs.members_of.Tie as tie
 
 abbrev Inv-loop : tie.InvT-loop
-Inv-loop image v numbers₀ slots₀ number₀ at₀ count₀ numbers slots number at count = Gathers image number₀ numbers slots number at count
+Inv-loop image v places numbers₀ slots₀ number₀ at₀ count₀ numbers slots number at count = Gathers image number₀ numbers slots number at count
 
 abbrev μ-loop : tie.MeasureT-loop
-μ-loop image v numbers₀ slots₀ number₀ at₀ count₀ numbers slots number at count = 256 - count
+μ-loop image v places numbers₀ slots₀ number₀ at₀ count₀ numbers slots number at count = 256 - count
 
 bytes : (c : tie.After-shared-slice-known Inv-loop μ-loop) → Bytes (now (c .before .args .image))
 bytes c = record { each = λ i. omega (arith, c .shared-slice-known .given i) }
@@ -67,7 +68,7 @@ returns c =
     gathers-end _ _ _ _ _ _ _ (l .loop .inv) (bytes (l .before)) (omega (arith, efnu (c .before), c .if1 .taken))
 
 slot-at-requires : tie.Need-slot-at-requires Inv-loop μ-loop
-slot-at-requires c κs = (c .before .before .before .before .before .pre .0, rw (efnu (c .before)) (linked c .number))
+slot-at-requires c κs = (c .before .before .before .before .before .pre .0, rw (efnu (c .before)) (number-slot _ _ (linked c .number)))
 
 loop-less : tie.Need-loop-less Inv-loop μ-loop
 loop-less c = omega (arith, room (c .before .before .before .before))

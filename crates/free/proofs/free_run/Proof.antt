@@ -1,10 +1,16 @@
 -- The volume is opened, and refused, or its storage map is searched.
-use mathlib.Core.Path.{sym, _∙_}
+use mathlib.Core.Path.{refl, sym, _∙_}
 use denote.Ref.{now}
+use Rattle.image.specs.Stores.{zeros}
 use borrow.Author.Needs.{needs}
 use Rattle.free.proofs.FreeLaws.{run-refused}
 use Rattle.free.proofs.free_run.Statement.{statement}
 use Rattle.free.proofs.free_run.Tie as tie
+
+-- The array lent for the places is new.
+open-requires : tie.Need-open-requires
+unfolding zeros
+open-requires c κs = refl
 
 free-on-requires : tie.Need-free-on-requires
 free-on-requires c κs =
@@ -18,9 +24,9 @@ returns c = c .free-on .ensures
 returns-2 : tie.Need-returns-2
 returns-2 c =
     let o = c .before .before .before .before in
-    let a = o .before .before .args in
+    let a = o .before .before .before .args in
     run-refused (now (a .image)) (a .from .0) _ (sym (o .«open» .ensures .0) ∙ c .before .result .given .1)
 
 pub free-run-spec : {M : Type 1} → statement M
 free-run-spec =
-    tie.close (tie.spec (search needs) (search needs) free-on-requires (search needs) returns returns-2)
+    tie.close (tie.spec open-requires (search needs) free-on-requires (search needs) returns returns-2)

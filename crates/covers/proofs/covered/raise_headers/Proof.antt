@@ -19,11 +19,11 @@ use Rattle.covers.proofs.covered.raise_headers.Statement.{statement}
 use Rattle.covers.proofs.covered.raise_headers.Tie as tie
 
 abbrev Inv-loop : tie.InvT-loop
-Inv-loop image v area₀ map fmax n₀ run₀ area n run =
+Inv-loop image v places area₀ map fmax n₀ run₀ area n run =
     (1 ≤ n) × (n ≤ fmax + 1) × (length area ≡ length area₀) × (area ≡ raisedBy area₀ (gathered image blocksOf (n - 1))) × Stands image n run
 
 abbrev μ-loop : tie.MeasureT-loop
-μ-loop image v area₀ map fmax n₀ run₀ area n run = fmax + 1 - n
+μ-loop image v places area₀ map fmax n₀ run₀ area n run = fmax + 1 - n
 
 module _ (l : tie.At-loop Inv-loop μ-loop) where
   abbrev s : tie.Start Inv-loop μ-loop
@@ -36,7 +36,7 @@ module _ (l : tie.At-loop Inv-loop μ-loop) where
   last = opened-fmax image (s .args .v) (s .pre .0) (record { each = λ i. omega (arith, l .before .before .before .before .shared-slice-known .given i) })
 
 slot-run-requires : tie.Need-slot-run-requires Inv-loop μ-loop
-slot-run-requires c κs = (c .before .before .before .pre .0, omega arith)
+slot-run-requires c κs = let p = c .before .before .before .pre .0 in ((p .0, p .1), omega arith)
 
 loop-holds : tie.Need-loop-holds Inv-loop μ-loop
 loop-holds c = (search needs, search needs, refl, sym (ap (raisedBy _) (gathered-none _ _) ∙ raisedBy-none _), c .slot-run .ensures)

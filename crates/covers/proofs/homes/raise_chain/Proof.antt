@@ -20,10 +20,10 @@ use Rattle.covers.proofs.homes.raise_chain.Statement.{statement}
 use Rattle.covers.proofs.homes.raise_chain.Tie as tie
 
 abbrev Inv-loop : tie.InvT-loop
-Inv-loop image v area₀ h₀ area h = Raised image area₀ area₀ h₀ → Raised image area₀ area h
+Inv-loop image v places area₀ h₀ area h = Raised image area₀ area₀ h₀ → Raised image area₀ area h
 
 abbrev μ-loop : tie.MeasureT-loop
-μ-loop image v area₀ h₀ area h = 255 - segment h
+μ-loop image v places area₀ h₀ area h = 255 - segment h
 
 module _ (l : tie.At-loop Inv-loop μ-loop) where
   abbrev s : tie.Start Inv-loop μ-loop

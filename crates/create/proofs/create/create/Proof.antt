@@ -1,9 +1,10 @@
 -- The volume is judged, and refused, or create goes on from there.
 use borrow.Author.Needs.{needs}
-use mathlib.Core.Path.{_≡_, sym, _∙_}
+use mathlib.Core.Path.{_≡_, refl, sym, _∙_}
 use mathlib.Core.List.{List}
 use Prim.Native.Nat.{ℕ}
 use denote.Ref.{now}
+use Rattle.image.specs.Stores.{zeros}
 use lib.ListN.{length}
 use Rattle.answer.specs.declared.outcome.Outcome.the-variants as outcome
 use Rattle.verdict.specs.Verdict.{verdict}
@@ -16,7 +17,7 @@ use Rattle.create.proofs.create.create.Tie as tie
 
 module _ (j : tie.After-judge-volume) where
   abbrev start : tie.Start
-  start = j .before .before .before .before .before .before .before
+  start = j .before .before .before .before .before .before .before .before
 
   abbrev image : List ℕ
   image = now (start .args .image)
@@ -30,17 +31,22 @@ module _ (j : tie.After-judge-volume) where
 passed : (c : tie.After-enum-told) → let j = c .before .before .before .before .before .before in verdict (image j) (area j) (headers j) ≡ outcome.Passed
 passed c = sym (c .before .before .before .before .before .before .judge-volume .ensures .0) ∙ c .enum-told .given .1
 
+-- The array lent for the places is new.
+judge-volume-requires : tie.Need-judge-volume-requires
+unfolding zeros
+judge-volume-requires c κs = refl
+
 create-on-requires : tie.Need-create-on-requires
 create-on-requires c κs =
-    let t = c .before in
+    let t = c .before .before in
     let j = t .before .before .before .before .before .before in
-    (passed-opens (image j) (area j) (headers j) (passed t), j .judge-volume .ensures .1 (passed t))
+    (passed-opens (image j) (area j) (headers j) (passed t), j .judge-volume .ensures .1 (passed t), j .judge-volume .ensures .4 (passed t))
 
 returns : tie.Need-returns
 unfolding createAnswer createImage
 returns c =
     let f = c .before .before in
-    let t = f .before .before in
+    let t = f .before .before .before in
     let j = t .before .before .before .before .before .before in
     let a = start j .args in
     let v = j .judge-volume .ensures in
@@ -60,5 +66,5 @@ returns-2 c =
 pub create-spec : {M : Type 1} → statement M
 create-spec =
     tie.close
-    (tie.spec (search needs) (search needs) create-on-requires (search needs) (search needs) (search needs) (search needs) returns
+    (tie.spec judge-volume-requires (search needs) create-on-requires (search needs) (search needs) (search needs) (search needs) returns
     (search needs) (search needs) (search needs) returns-2)

@@ -1,18 +1,19 @@
 -- The number that was found has a slot with a word below 65,535; the slot and the index map lie inside the image.
 use borrow.Author.Needs.{needs}
-use mathlib.Core.Path.{_≡_, sym, ap, _∙_}
+use mathlib.Core.Path.{_≡_, ap, _∙_}
 use mathlib.Core.List.{List}
 use native.Mathlib.Omega.{arith}
 use Prim.Native.Nat.{ℕ, _<_}
 use denote.Ref.{now}
+use borrow.Author.Tests.{le-leb}
+use Rattle.image.specs.Blocks.{block}
 use Rattle.header.specs.Fields.{hFseq}
-use Rattle.volume.specs.Volume.{fmax, slot, header}
+use Rattle.volume.specs.Volume.{fmax, slot, slots, hasSlot, header}
 use Rattle.volume.specs.Opening.{indexMapBlocks, Laid}
 use Rattle.volume.proofs.VolumeLaws.{Opens, opens, says, slot-below}
-use Rattle.slots.proofs.SlotLaws.{stands-read, opened-fmax}
+use Rattle.slots.proofs.SlotLaws.{opened-fmax}
 use Rattle.update.specs.Create.{newId, newSequence, indexBit, withNumber, withFile}
 use Rattle.update.proofs.PassedLaws.{Spare, free-spare}
-use Rattle.create.proofs.SpareLaws.{slot-stands}
 use Rattle.create.proofs.create.put_file.Statement.{statement}
 use Rattle.create.proofs.create.put_file.Tie as tie
 
@@ -39,23 +40,22 @@ module _ (h : tie.After-h-fseq) where
   abbrev k : tie.After-slice-known
   k = h .before .before .before .before .before
 
-  abbrev stands : tie.After-slot-run
-  stands = h .before .before .before
+  lbn : h .before .before .before .slot-at .result .0 ≡ slot (image k) (n k)
+  lbn = h .before .before .before .slot-at .ensures
 
   word : h .h-fseq .result ≡ hFseq (header (image k) (n k))
-  word = h .h-fseq .ensures ∙ ap hFseq (h .before .block .ensures ∙ stands-read (image k) (n k) _ (stands .slot-run .ensures) (spare k .has))
+  unfolding header
+  word = h .h-fseq .ensures ∙ ap hFseq (h .before .block .ensures ∙ ap (block (image k)) lbn)
 
-  lbn : stands .slot-run .result .lbn .0 ≡ slot (image k) (n k)
-  lbn = sym (slot-stands (image k) (n k) _ (stands .slot-run .ensures) (spare k .has))
+slot-at-requires : tie.Need-slot-at-requires
+unfolding hasSlot
+slot-at-requires c κs = (c .before .before .pre .0, le-leb (n (c .before)) (slots (image (c .before))) (spare (c .before) .has))
 
-slot-run-requires : tie.Need-slot-run-requires
-slot-run-requires c κs = (c .before .before .pre .0, omega (arith, most (c .before), c .before .before .pre .2))
+cast-t17 : tie.Need-cast-t17
+cast-t17 c = omega (arith, most (k c))
 
-cast-t16 : tie.Need-cast-t16
-cast-t16 c = omega (arith, most (k c))
-
-add-t17 : tie.Need-add-t17
-add-t17 c = omega (arith, word c, spare (k c) .word)
+add-t18 : tie.Need-add-t18
+add-t18 c = omega (arith, word c, spare (k c) .word)
 
 put-header-requires : tie.Need-put-header-requires
 put-header-requires c κs =
@@ -89,4 +89,4 @@ returns c =
 pub put-file-spec : {M : Type 1} → statement M
 put-file-spec =
     tie.close
-    (tie.spec slot-run-requires (search needs) (search needs) cast-t16 add-t17 put-header-requires sub-put-map-bit put-map-bit-requires (search needs) returns)
+    (tie.spec slot-at-requires (search needs) (search needs) cast-t17 add-t18 put-header-requires sub-put-map-bit put-map-bit-requires (search needs) returns)

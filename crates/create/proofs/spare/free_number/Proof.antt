@@ -16,11 +16,11 @@ use Rattle.create.proofs.spare.free_number.Statement.{statement}
 use Rattle.create.proofs.spare.free_number.Tie as tie
 
 abbrev Inv-loop : tie.InvT-loop
-Inv-loop image v map run₀ n₀ run n =
+Inv-loop image v places map run₀ n₀ run n =
     (6 ≤ n) × (n ≤ v .fmax + 1) × Stands image n run × (freeNumber image ≡ first (isSpare image) n (v .fmax + 1 - n))
 
 abbrev μ-loop : tie.MeasureT-loop
-μ-loop image v map run₀ n₀ run n = v .fmax + 1 - n
+μ-loop image v places map run₀ n₀ run n = v .fmax + 1 - n
 
 most : (c : tie.After-shared-slice-known Inv-loop μ-loop) → (c .before .args .v .fmax ≡ fmax (now (c .before .args .image))) × (c .before .args .v .fmax < 65536)
 most c =
@@ -28,7 +28,7 @@ most c =
     opened-fmax (now (s .args .image)) (s .args .v) (s .pre) (record { each = λ i. omega (arith, c .shared-slice-known .given i) })
 
 slot-run-requires : tie.Need-slot-run-requires Inv-loop μ-loop
-slot-run-requires c κs = (c .before .before .pre, omega arith)
+slot-run-requires c κs = let p = c .before .before .pre in ((p .0, p .1), omega arith)
 
 loop-holds : tie.Need-loop-holds Inv-loop μ-loop
 unfolding freeNumber

@@ -1,8 +1,9 @@
 -- A volume that passes the verdict is sound, and the file is deleted on it; one that does not is left as it was.
-use mathlib.Core.Path.{_≡_, sym, _∙_}
+use mathlib.Core.Path.{_≡_, refl, sym, _∙_}
 use mathlib.Core.List.{List}
 use Prim.Native.Nat.{ℕ}
 use denote.Ref.{now}
+use Rattle.image.specs.Stores.{zeros}
 use lib.ListN.{length}
 use borrow.Author.Needs.{needs}
 use Rattle.answer.specs.declared.outcome.Outcome.the-variants.{Passed}
@@ -22,7 +23,7 @@ module _ (c : tie.After-enum-told) where
   judging = c .before .before .before .before .before .before
 
   abbrev start : tie.Start
-  start = judging .before .before .before .before .before .before .before
+  start = judging .before .before .before .before .before .before .before .before
 
   abbrev image : List ℕ
   image = now (start .args .image)
@@ -41,13 +42,21 @@ module _ (c : tie.After-enum-told) where
       let room = passed-room image b h passed in
       verdict-judges image b h (room .0) (room .1) .yields passed
 
+-- The array lent for the places is new.
+judge-volume-requires : tie.Need-judge-volume-requires
+unfolding zeros
+judge-volume-requires c κs = refl
+
 delete-on-requires : tie.Need-delete-on-requires
-delete-on-requires c κs = let t = c .before in ((sound t .0, judging t .judge-volume .ensures .1 (passed t)), sound t .1)
+delete-on-requires c κs =
+    let t = c .before .before in
+    let v = judging t .judge-volume .ensures in
+    ((sound t .0, v .1 (passed t), v .4 (passed t)), sound t .1)
 
 returns : tie.Need-returns
 unfolding deleteAnswer deleteImage
 returns c =
-    let t = c .before .before .before .before in
+    let t = c .before .before .before .before .before in
     let d = c .before .before .delete-on .ensures in
     let v = judging t .judge-volume .ensures in
     let e = judged-passed (image t) (start t .args .id) (b t) (h t) (passed t) in
@@ -57,7 +66,7 @@ returns-2 : tie.Need-returns-2
 returns-2 c =
     let r = c .before in
     let j = r .before .before .before .before .before .before in
-    let a = j .before .before .before .before .before .before .before .args in
+    let a = j .before .before .before .before .before .before .before .before .args in
     let v = j .judge-volume .ensures in
     let e = judged-refused (now (a .image)) (a .id) (length (now (a .area))) (length (now (a .headers))) _ (sym (v .0) ∙ r .result .given .1) in
     (e .0, e .1, v .2, v .3)
@@ -65,4 +74,4 @@ returns-2 c =
 pub delete-spec : {M : Type 1} → statement M
 delete-spec =
     tie.close
-    (tie.spec (search needs) (search needs) delete-on-requires (search needs) (search needs) (search needs) (search needs) returns (search needs) (search needs) (search needs) returns-2)
+    (tie.spec judge-volume-requires (search needs) delete-on-requires (search needs) (search needs) (search needs) (search needs) returns (search needs) (search needs) (search needs) returns-2)

@@ -14,8 +14,8 @@ use Rattle.directory.proofs.LookUpLaws.{opened-file, records-inside, se
 use Rattle.directory.proofs.look_up.look_up_opened.Statement.{statement}
 use Rattle.directory.proofs.look_up.look_up_opened.Tie as tie
 
-opened : (c : tie.Start) → FileOpen (now (c .args .image)) (c .args .v) (c .args .id .number)
-opened c = opened-file (now (c .args .image)) (c .args .v) (c .args .id) (c .pre .0) (c .pre .1)
+opened : (c : tie.Start) → FileOpen (now (c .args .image)) (c .args .v) (now (c .args .places)) (c .args .id .number)
+opened c = opened-file (now (c .args .image)) (c .args .v) (now (c .args .places)) (c .args .id) (c .pre .0) (c .pre .1) (c .pre .4)
 
 good : (c : tie.Then1) → proper (c .before .before .before .args .name) ≡ true
 good c = sym (c .before .is-proper .ensures) ∙ c .if1 .taken

@@ -10,8 +10,8 @@ use Rattle.directory.proofs.LookUpLaws.{opened-file, records-inside, se
 use Rattle.directory.proofs.next.next_opened.Statement.{statement}
 use Rattle.directory.proofs.next.next_opened.Tie as tie
 
-opened : (c : tie.Start) → FileOpen (now (c .args .image)) (c .args .v) (c .args .id .number)
-opened c = opened-file (now (c .args .image)) (c .args .v) (c .args .id) (c .pre .0) (c .pre .1)
+opened : (c : tie.Start) → FileOpen (now (c .args .image)) (c .args .v) (now (c .args .places)) (c .args .id .number)
+opened c = opened-file (now (c .args .image)) (c .args .v) (now (c .args .places)) (c .args .id) (c .pre .0) (c .pre .1) (c .pre .4)
 
 found : (c : tie.After-search-file) →
     let a = c .before .before .before .before .args in

@@ -21,7 +21,7 @@ lbn-at-requires c κs =
 entry-at-requires : tie.Need-entry-at-requires
 entry-at-requires c κs =
     let k = c .before .before .before in
-    let inside = block-inside (now (k .args .image)) (k .args .v) (k .args .n .0) (k .pre .0) (k .args .r / 32) (omega arith) in
+    let inside = block-inside (now (k .args .image)) (k .args .v) (now (k .args .places)) (k .args .n .0) (k .pre .0) (k .args .r / 32) (omega arith) in
     let long : length (now (c .block .result)) ≡ 512 = rw (c .block .ensures) (block-length (now (k .args .image)) (c .before .lbn-at .result .0) (omega (arith, inside, c .before .lbn-at .ensures))) in
     omega (arith, long)
 

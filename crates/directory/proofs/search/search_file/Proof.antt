@@ -20,12 +20,12 @@ use Rattle.directory.proofs.search.search_file.Statement.{statement}
 use Rattle.directory.proofs.search.search_file.Tie as tie
 
 abbrev Inv-loop : tie.InvT-loop
-Inv-loop image v from to w h₀ place₀ start₀ h place start =
+Inv-loop image v at from to w h₀ place₀ start₀ h place start =
     (start ≤ place) × (from ≤ place) × (place ≤ to) × (start ≡ 32 * (start / 32))
     × ((n : ℕ) → Walk image n h₀ 0 → Walk image n h (start / 32) × (searchIn image (fileBlocks image n) w from to ≡ searchIn image (fileBlocks image n) w place to))
 
 abbrev μ-loop : tie.MeasureT-loop
-μ-loop image v from to w h₀ place₀ start₀ h place start = 255 - segment h
+μ-loop image v at from to w h₀ place₀ start₀ h place start = 255 - segment h
 
 bytes : (c : tie.After-shared-slice-known Inv-loop μ-loop) → Bytes (now (c .before .args .image))
 bytes c = record { each = λ k. omega (arith, c .shared-slice-known .given k) }

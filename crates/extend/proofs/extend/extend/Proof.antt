@@ -1,8 +1,9 @@
 -- The volume is judged, and refused, or extend goes on from there: an image that is accepted is sound.
-use mathlib.Core.Path.{_≡_, sym, ap, _∙_}
+use mathlib.Core.Path.{_≡_, refl, sym, ap, _∙_}
 use mathlib.Core.List.{List}
 use Prim.Native.Nat.{ℕ}
 use denote.Ref.{now}
+use Rattle.image.specs.Stores.{zeros}
 use lib.ListN.{length}
 use borrow.Author.Needs.{needs}
 use Rattle.answer.specs.declared.outcome.Outcome.{Outcome}
@@ -18,7 +19,7 @@ use Rattle.extend.proofs.extend.extend.Tie as tie
 
 module _ (j : tie.After-judge-volume) where
   abbrev start : tie.Start
-  start = j .before .before .before .before .before .before .before
+  start = j .before .before .before .before .before .before .before .before
 
   abbrev image : List ℕ
   image = now (start .args .image)
@@ -32,12 +33,17 @@ module _ (j : tie.After-judge-volume) where
 passed : (c : tie.After-enum-told) → let j = c .before .before .before .before .before .before .before in verdict (image j) (area j) (headers j) ≡ outcome.Passed
 passed c = sym (c .before .before .before .before .before .before .before .judge-volume .ensures .0) ∙ c .enum-told .given .1
 
+-- The array lent for the places is new.
+judge-volume-requires : tie.Need-judge-volume-requires
+unfolding zeros
+judge-volume-requires c κs = refl
+
 extend-on-requires : tie.Need-extend-on-requires
 extend-on-requires c κs =
-    let t = c .before in
+    let t = c .before .before in
     let j = t .before .before .before .before .before .before .before in
     let room = passed-room (image j) (area j) (headers j) (passed t) in (
-      (passed-opens (image j) (area j) (headers j) (passed t), j .judge-volume .ensures .1 (passed t)),
+      (passed-opens (image j) (area j) (headers j) (passed t), j .judge-volume .ensures .1 (passed t), j .judge-volume .ensures .4 (passed t)),
       verdict-judges (image j) (area j) (headers j) (room .0) (room .1) .yields (passed t) .1,
     )
 
@@ -45,7 +51,7 @@ returns : tie.Need-returns
 unfolding extendAnswer extendImage
 returns c =
     let f = c .before .before in
-    let t = f .before .before in
+    let t = f .before .before .before in
     let j = t .before .before .before .before .before .before .before in
     let a = start j .args in
     let v = j .judge-volume .ensures in
@@ -70,5 +76,5 @@ returns-2 c =
 pub extend-spec : {M : Type 1} → statement M
 extend-spec =
     tie.close
-    (tie.spec (search needs) (search needs) extend-on-requires (search needs) (search needs) (search needs) (search needs) returns
+    (tie.spec judge-volume-requires (search needs) extend-on-requires (search needs) (search needs) (search needs) (search needs) returns
     (search needs) (search needs) (search needs) returns-2)

@@ -52,7 +52,7 @@ take-requires c κs =
     let t = c .before .before in
     let p = t .before .before in
     let a = start p .args in
-    (start p .pre .0, rw (told t .1, told t .2) (takes (image p) (good p) (a .id) (a .c) (extend-tested (image p) (a .id) (a .c) (told t .0))))
+    ((start p .pre .0 .0, start p .pre .0 .1), rw (told t .1, told t .2) (takes (image p) (good p) (a .id) (a .c) (extend-tested (image p) (a .id) (a .c) (told t .0))))
 
 returns : tie.Need-returns
 returns c =

@@ -59,7 +59,7 @@ find-run-requires c κs =
     let e = c .before .before in
     let t = e .before .before .before .before in
     let r = count-range (start t .args .c) (admits-count (header (image t) (n t)) (n t) (start t .args .c) (admitted e)) in
-    (start t .pre, r .0, r .1)
+    ((start t .pre .0, start t .pre .1), r .0, r .1)
 
 returns : tie.Need-returns
 returns c =

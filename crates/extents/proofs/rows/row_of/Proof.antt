@@ -17,10 +17,10 @@ use Rattle.extents.proofs.rows.row_of.Statement.{statement}
 use Rattle.extents.proofs.rows.row_of.Tie as tie
 
 abbrev Inv-loop : tie.InvT-loop
-Inv-loop image v i h₀ row₀ h row = (n : ℕ) → Walk image n h₀ 0 → Turn image n i h row
+Inv-loop image v places i h₀ row₀ h row = (n : ℕ) → Walk image n h₀ 0 → Turn image n i h row
 
 abbrev μ-loop : tie.MeasureT-loop
-μ-loop image v i h₀ row₀ h row = 255 - segment h
+μ-loop image v places i h₀ row₀ h row = 255 - segment h
 
 bytes : (c : tie.After-shared-slice-known Inv-loop μ-loop) → Bytes (now (c .before .args .image))
 bytes c = record { each = λ k. omega (arith, c .shared-slice-known .given k) }

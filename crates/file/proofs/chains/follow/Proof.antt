@@ -43,7 +43,7 @@ tested c =
     let p = b .before .before in
     let e = p .before .before .before .before in
     let start = e .before .before .before in
-    rw (links-number (now (start .args .image)) (now (start .args .h)) (found p .0), ← named b, ← e .m-efnu .ensures, ← says (now (start .args .image)) (start .args .v) (start .pre .1) .blocks) (c .is-next .ensures)
+    rw (links-number (now (start .args .image)) (now (start .args .h)) (found p .0), ← named b, ← says (now (start .args .image)) (start .args .v) (start .pre .1) .blocks) (c .is-next .ensures)
 
 slot-in-use-requires : tie.Need-slot-in-use-requires
 slot-in-use-requires c κs = c .before .before .before .before .pre
@@ -56,7 +56,7 @@ returns c =
 is-next-requires : tie.Need-is-next-requires
 is-next-requires c κs =
     let start = c .before .before .before .before .before .before .before .before .before in
-    rw (named c) (number-length (now (start .args .image)) (mEfnu (now (start .args .h))) (found (c .before .before) .0) (start .pre .0))
+    (rw (named c) (number-length (now (start .args .image)) (mEfnu (now (start .args .h))) (found (c .before .before) .0) (start .pre .0)), c .before .before .before .before .before .before .m-efnu .ensures)
 
 returns-2 : tie.Need-returns-2
 returns-2 c =

@@ -18,10 +18,10 @@ use Rattle.file.proofs.chains.lbn_at.Statement.{statement}
 use Rattle.file.proofs.chains.lbn_at.Tie as tie
 
 abbrev Inv-loop : tie.InvT-loop
-Inv-loop image v i h₀ left₀ h left = (left ≤ i) × ((n : ℕ) → Walk image n h₀ 0 → Walk image n h (i - left))
+Inv-loop image v at i h₀ left₀ h left = (left ≤ i) × ((n : ℕ) → Walk image n h₀ 0 → Walk image n h (i - left))
 
 abbrev μ-loop : tie.MeasureT-loop
-μ-loop image v i h₀ left₀ h left = 255 - segment h
+μ-loop image v at i h₀ left₀ h left = 255 - segment h
 
 bytes : (c : tie.After-shared-slice-known Inv-loop μ-loop) → Bytes (now (c .before .args .image))
 bytes c = record { each = λ k. omega (arith, c .shared-slice-known .given k) }

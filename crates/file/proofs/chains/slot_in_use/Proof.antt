@@ -5,7 +5,7 @@ use Rattle.file.proofs.chains.slot_in_use.Statement.{statement}
 use Rattle.file.proofs.chains.slot_in_use.Tie as tie
 
 is-in-use-requires : tie.Need-is-in-use-requires
-is-in-use-requires c κs = c .before .pre
+is-in-use-requires c κs = (c .before .pre .0, c .before .pre .1)
 
 slot-of-requires : tie.Need-slot-of-requires
 slot-of-requires c κs = c .before .before .before .pre

@@ -1,13 +1,19 @@
 -- The answer is the outcome, with the number of blocks.
 use borrow.Author.Needs.{needs}
-use mathlib.Core.Path.{sym, ap, ap₂, _∙_}
+use mathlib.Core.Path.{refl, sym, ap, ap₂, _∙_}
 use denote.Ref.{now}
+use Rattle.image.specs.Stores.{zeros}
 use lib.ListN.{length}
 use Rattle.answer.specs.declared.outcome.Outcome.{Outcome}
 use Rattle.file.specs.Chains.{fileBlocks}
 use Rattle.file.specs.Opening.{openedFile, openAnswer}
 use Rattle.file.proofs.opening.open_file.Statement.{statement}
 use Rattle.file.proofs.opening.open_file.Tie as tie
+
+-- The array lent for the places is new.
+open-requires : tie.Need-open-requires
+unfolding zeros
+open-requires c κs = refl
 
 returns : tie.Need-returns
 unfolding openAnswer openedFile
@@ -21,8 +27,8 @@ unfolding openAnswer openedFile
 returns-2 c =
     let r = c .before in
     let o = r .before .before in
-    let a = o .before .before .args in
+    let a = o .before .before .before .args in
     sym (ap (λ (result : Outcome). openedFile result (length (fileBlocks (now (a .image)) (a .id .number)))) (sym (o .open .ensures .0) ∙ r .result .given .1))
 
 pub open-file-spec : {M : Type 1} → statement M
-open-file-spec = tie.close (tie.spec (search needs) (search needs) (search needs) returns returns-2)
+open-file-spec = tie.close (tie.spec open-requires (search needs) (search needs) returns returns-2)

@@ -17,11 +17,11 @@ use Rattle.numbers.proofs.files.first_bad_file.Statement.{statement}
 use Rattle.numbers.proofs.files.first_bad_file.Tie as tie
 
 abbrev Inv-loop : tie.InvT-loop
-Inv-loop image v map run₀ single₀ n₀ run single n =
+Inv-loop image v places map run₀ single₀ n₀ run single n =
     (1 ≤ n) × (n ≤ v .fmax + 1) × Stands image n run × (filesPlace image ≡ first (badFile image) n (v .fmax + 1 - n)) × (single ≡ true → UnlinkedBelow image n)
 
 abbrev μ-loop : tie.MeasureT-loop
-μ-loop image v map run₀ single₀ n₀ run single n = v .fmax + 1 - n
+μ-loop image v places map run₀ single₀ n₀ run single n = v .fmax + 1 - n
 
 most : (c : tie.After-shared-slice-known Inv-loop μ-loop) → (c .before .args .v .fmax ≡ fmax (now (c .before .args .image))) × (c .before .args .v .fmax < 65536)
 most c =
@@ -29,7 +29,7 @@ most c =
     opened-fmax (now (s .args .image)) (s .args .v) (s .pre) (record { each = λ i. omega (arith, c .shared-slice-known .given i) })
 
 slot-run-requires : tie.Need-slot-run-requires Inv-loop μ-loop
-slot-run-requires c κs = (c .before .before .pre, omega arith)
+slot-run-requires c κs = let p = c .before .before .pre in ((p .0, p .1), omega arith)
 
 loop-holds : tie.Need-loop-holds Inv-loop μ-loop
 unfolding filesPlace
@@ -50,7 +50,7 @@ is-bad-file-requires c κs =
     let l = c .before .before .before in
     let r = l .before .before in
     let s = r .before .before in
-    (s .pre, l .loop .inv .2, read-used (now (s .args .image)) (s .args .v) (s .pre) _ (r .region .ensures) (l .loop .n) (omega arith) (omega arith) _ (c .bit-at .ensures), omega arith)
+    ((s .pre .0, s .pre .1), l .loop .inv .2, read-used (now (s .args .image)) (s .args .v) (s .pre) _ (r .region .ensures) (l .loop .n) (omega arith) (omega arith) _ (c .bit-at .ensures), omega arith)
 
 next-run-requires : tie.Need-next-run-requires Inv-loop μ-loop
 next-run-requires c κs =

@@ -18,11 +18,11 @@ use Rattle.numbers.proofs.links.first_bad_link.Statement.{statement}
 use Rattle.numbers.proofs.links.first_bad_link.Tie as tie
 
 abbrev Inv-loop : tie.InvT-loop
-Inv-loop image v headers map run₀ n₀ run n =
+Inv-loop image v places headers map run₀ n₀ run n =
     (1 ≤ n) × (n ≤ v .fmax + 1) × Stands image n run × (linksPlace image ≡ first (badLinks image (linked image)) n (v .fmax + 1 - n))
 
 abbrev μ-loop : tie.MeasureT-loop
-μ-loop image v headers map run₀ n₀ run n = v .fmax + 1 - n
+μ-loop image v places headers map run₀ n₀ run n = v .fmax + 1 - n
 
 most : (c : tie.After-shared-slice-known Inv-loop μ-loop) → (c .before .args .v .fmax ≡ fmax (now (c .before .args .image))) × (c .before .args .v .fmax < 65536)
 most c =
@@ -30,7 +30,7 @@ most c =
     opened-fmax (now (s .args .image)) (s .args .v) (s .pre .0) (record { each = λ i. omega (arith, c .shared-slice-known .given i) })
 
 slot-run-requires : tie.Need-slot-run-requires Inv-loop μ-loop
-slot-run-requires c κs = (c .before .before .before .pre .0, omega arith)
+slot-run-requires c κs = let p = c .before .before .before .pre .0 in ((p .0, p .1), omega arith)
 
 loop-holds : tie.Need-loop-holds Inv-loop μ-loop
 unfolding linksPlace

@@ -17,11 +17,11 @@ use Rattle.numbers.proofs.links.raise_links.Statement.{statement}
 use Rattle.numbers.proofs.links.raise_links.Tie as tie
 
 abbrev Inv-loop : tie.InvT-loop
-Inv-loop image v headers₀ map run₀ n₀ headers run n =
+Inv-loop image v places headers₀ map run₀ n₀ headers run n =
     (1 ≤ n) × (n ≤ v .fmax + 1) × (length headers ≡ length headers₀) × Stands image n run × (headers ≡ tallied (gathered image linkOf (n - 1)) 1 (fmax image) headers₀)
 
 abbrev μ-loop : tie.MeasureT-loop
-μ-loop image v headers₀ map run₀ n₀ headers run n = v .fmax + 1 - n
+μ-loop image v places headers₀ map run₀ n₀ headers run n = v .fmax + 1 - n
 
 most : (c : tie.After-shared-slice-known Inv-loop μ-loop) → (c .before .args .v .fmax ≡ fmax (now (c .before .args .image))) × (c .before .args .v .fmax < 65536)
 most c =
@@ -29,7 +29,7 @@ most c =
     opened-fmax (now (s .args .image)) (s .args .v) (s .pre .0) (record { each = λ i. omega (arith, c .shared-slice-known .given i) })
 
 slot-run-requires : tie.Need-slot-run-requires Inv-loop μ-loop
-slot-run-requires c κs = (c .before .before .before .pre .0, omega arith)
+slot-run-requires c κs = let p = c .before .before .before .pre .0 in ((p .0, p .1), omega arith)
 
 loop-holds : tie.Need-loop-holds Inv-loop μ-loop
 loop-holds c =

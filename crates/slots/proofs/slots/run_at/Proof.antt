@@ -1,7 +1,7 @@
 -- What is left is the place less the blocks of the pointers so far.
 use borrow.Author.Needs.{needs}
 use native.Mathlib.Omega.{arith}
-use mathlib.Core.Path.{_≡_, sym, ap, ap₂, _∙_}
+use mathlib.Core.Path.{_≡_, refl, sym, ap, ap₂, _∙_}
 use Prim.Native.Nat.{ℕ, _+_, _-_, _≤_}
 use denote.Ref.{now}
 use lib.ListN.{length}
@@ -38,7 +38,7 @@ returns c =
     let k = l .before .pointer-number .result in
     let at = b .first-pointer .result in
     let e : runs h (pointersAt h) (pointers h) ≡ runs h at k = ap₂ (runs h) (sym (b .first-pointer .ensures .0)) (sym (l .before .pointer-number .ensures .0)) in
-    rw (e, l .loop .inv .1) (run-here h at p k (l .loop .left) _ (omega arith) (omega arith) (omega arith) (omega arith))
+    (rw (e, l .loop .inv .1) (run-here h at p k (l .loop .left) _ (omega arith) (omega arith) (omega arith) (omega arith)), λ s. (refl, omega arith, rw (← b .first-pointer .ensures .0) (omega (arith, l .loop .inv .1, runs-length h at p))))
 
 returns-2 : tie.Need-returns-2 Inv-loop μ-loop
 unfolding blocksOf
@@ -51,7 +51,7 @@ returns-2 c =
     let e : runs h (pointersAt h) (pointers h) ≡ runs h at k = ap₂ (runs h) (sym (b .first-pointer .ensures .0)) (sym (l .before .pointer-number .ensures .0)) in
     let d : l .loop .p ≡ k = omega arith in
     let i : b .before .before .args .i ≡ length (runs h at k) + l .loop .left = l .loop .inv .1 ∙ ap (λ (p : ℕ). length (runs h at p) + l .loop .left) d in
-    rw e (run-none (runs h at k) _ _ (omega arith) (omega arith))
+    (rw e (run-none (runs h at k) _ _ refl (omega arith)), λ s. absurd (omega arith))
 
 pub run-at-spec : {M : Type 1} → statement M
 run-at-spec = tie.close (tie.spec Inv-loop μ-loop (search needs) (search needs) loop-holds (search needs) (search needs) (search needs) (search needs) (search needs) (search needs) (search needs) (search needs) returns (search needs) (search needs) loop-again returns-2)

@@ -1,13 +1,13 @@
--- A number's slot is a place in the index file, whose pointers lie in header 1.
+-- The slots of the first sixteen numbers are blocks of header 1.
 use borrow.Author.Needs.{needs}
 use native.Mathlib.Omega.{arith}
-use mathlib.Core.Path.{_≡_, ap, ap₂, _∙_}
+use mathlib.Core.Path.{_≡_, sym, ap, ap₂, _∙_}
 use Prim.Native.Nat.{_+_, _≤_}
 use denote.Ref.{now}
 use Rattle.image.specs.Blocks.{block}
-use Rattle.volume.specs.Volume.{indexHeader, index}
+use Rattle.volume.specs.Volume.{indexHeader}
 use Rattle.volume.proofs.VolumeLaws.{opens, indexHeader-fits, says}
-use Rattle.slots.proofs.SlotLaws.{stands-run}
+use Rattle.slots.proofs.SlotLaws.{stands-first}
 use Rattle.slots.proofs.slots.slot_run.Statement.{statement}
 use Rattle.slots.proofs.slots.slot_run.Tie as tie
 
@@ -33,21 +33,20 @@ add-run-at : tie.Need-add-run-at
 add-run-at c = omega (arith, room (c .before .before .before .before))
 
 add-run-at-2 : tie.Need-add-run-at-2
-add-run-at-2 c = omega (arith, room (c .before .before .before .before .before))
+add-run-at-2 c = omega (arith, room (c .before .before .before .before .before), c .before .before .before .before .before .pre .1)
 
 run-at-requires : tie.Need-run-at-requires
 run-at-requires c κs =
-    let b = c .before .before in
-    let s = b .before .before .before in
-    rw (header-read b) (indexHeader-fits (opens (now (s .args .image)) (s .pre .0 .0)))
+    let s = c .before .before .before .before .before in
+    rw (header-read (c .before .before)) (indexHeader-fits (opens (now (s .args .image)) (s .pre .0 .0)))
 
 returns : tie.Need-returns
-unfolding index
 returns c =
     let b = c .before .before .before in
     let s = b .before .before .before in
     let image = now (s .args .image) in
-    stands-run image (opens image (s .pre .0 .0)) (s .args .n .0) _ (rw (← header-read b, ← says image (s .args .v) (s .pre .0 .1) .ibsz) (c .run-at .ensures))
+    let found = rw (header-read b, says image (s .args .v) (s .pre .0 .1) .ibsz) at (c .run-at .ensures) in
+    stands-first image (opens image (s .pre .0 .0)) (s .args .n .0) (c .run-at .result) (s .pre .1) (found .0) (found .1)
 
 pub slot-run-spec : {M : Type 1} → statement M
 slot-run-spec = tie.close (tie.spec add-block (search needs) add-run-at add-run-at-2 run-at-requires returns)

@@ -4,6 +4,7 @@ use mathlib.Core.List.{List}
 use Prim.Native.Nat.{ℕ, _≤_}
 use native.Mathlib.Omega.{arith}
 use denote.Ref.{now}
+use Rattle.image.specs.Stores.{zeros}
 use lib.ListN.{length}
 use Rattle.answer.specs.declared.outcome.Outcome.the-variants as outcome
 use Rattle.volume.specs.Home.{blocks}
@@ -21,7 +22,7 @@ module _ (c : tie.After-enum-told) where
   judging = c .before .before .before .before .before .before
 
   abbrev start : tie.Start
-  start = judging .before .before .before .before .before .before
+  start = judging .before .before .before .before .before .before .before
 
   abbrev image : List ℕ
   image = now (start .args .image)
@@ -34,6 +35,11 @@ module _ (c : tie.After-enum-told) where
 
   room : blocks image ≤ length area
   room = passed-room image _ _ passed .0
+
+-- The array lent for the places is new.
+judge-volume-requires : tie.Need-judge-volume-requires
+unfolding zeros
+judge-volume-requires c κs = refl
 
 count-requires : tie.Need-count-requires
 count-requires c κs =
@@ -60,4 +66,4 @@ returns-2 c =
     (rw (sym (v .0) ∙ r .result .given .1) refl, v .2, v .3)
 
 pub judge-spec : {M : Type 1} → statement M
-judge-spec = tie.close (tie.spec (search needs) (search needs) count-requires (search needs) (search needs) (search needs) returns (search needs) (search needs) returns-2)
+judge-spec = tie.close (tie.spec judge-volume-requires (search needs) count-requires (search needs) (search needs) (search needs) returns (search needs) (search needs) returns-2)

@@ -48,7 +48,7 @@ twice-requires : tie.Need-twice-requires
 twice-requires c κs =
     let d = c .before .before .before in
     let s = d .before .before .before .before in
-    (s .pre .0, room s _ (d .cover .ensures), holds s _ (d .cover .ensures))
+    ((s .pre .0 .0, s .pre .0 .1), room s _ (d .cover .ensures), holds s _ (d .cover .ensures))
 
 bad-home-requires : tie.Need-bad-home-requires
 bad-home-requires c κs =
@@ -64,7 +64,7 @@ map-requires c κs =
     let d = covering (t .before .before) in
     let s = start (t .before .before) in
     let e = b .bad-home .ensures .1 ∙ d .cover .ensures in
-    (s .pre .0, room s _ e, holds s _ e)
+    ((s .pre .0 .0, s .pre .0 .1), room s _ e, holds s _ e)
 
 returns : tie.Need-returns
 unfolding _then_

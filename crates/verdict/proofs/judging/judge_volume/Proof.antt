@@ -8,7 +8,7 @@ use lib.Dec.{leb}
 use lib.ListN.{length}
 use Rattle.answer.specs.declared.outcome.Outcome.the-variants as outcome
 use Rattle.answer.specs.Outcome.{unless, _then_}
-use Rattle.volume.specs.Volume.{volumeOf}
+use Rattle.volume.specs.Volume.{volumeOf, placesOf}
 use Rattle.volume.specs.Opening.{openVolume}
 use Rattle.volume.proofs.VolumeLaws.{says}
 use Rattle.verdict.specs.Verdict.{roomy, ready, verdict, afterwards, headerMarks, blockMarks}
@@ -22,7 +22,7 @@ module _ (c : tie.After-enum-told) where
   opening = c .before .before .before
 
   abbrev start : tie.Start
-  start = opening .before .before .before .before
+  start = opening .before .before .before .before .before
 
   abbrev image : List ℕ
   image = now (start .args .image)
@@ -33,6 +33,9 @@ module _ (c : tie.After-enum-told) where
   volume : opening .open .result .volume ≡ volumeOf image
   volume = opening .open .ensures .1 opened
 
+  lie : opening .open .last .1 .0 ≡ placesOf image
+  lie = opening .open .ensures .2 opened
+
 -- Whether there is room, as the image says.
 room : (c : tie.After-is-roomy)
     → c .is-roomy .result ≡ roomy (image (c .before)) (length (now (start (c .before) .args .area))) (length (now (start (c .before) .args .headers)))
@@ -42,28 +45,31 @@ room c =
     let laid = says (image t) _ (volume t) in
     c .is-roomy .ensures ∙ ap₂ (λ (n m : ℕ). leb n (length (now (start t .args .area))) && leb m (length (now (start t .args .headers)))) (laid .blocks) (laid .fmax)
 
+open-requires : tie.Need-open-requires
+open-requires c κs = c .before .before .before .before .pre
+
 judge-opened-requires : tie.Need-judge-opened-requires
 judge-opened-requires c κs =
-    let f = c .before .before in
+    let f = c .before .before .before in
     let t = f .before .before in
     let r = roomy-is (image t) _ _ (sym (room (f .before)) ∙ f .if1 .taken) in
-    ((opened t, volume t), r .0, r .1)
+    ((opened t, volume t, lie t), r .0, r .1)
 
 returns : tie.Need-returns
 unfolding verdict ready blockMarks headerMarks unless _then_
 returns c =
     let j = c .before .before .before .before in
-    let f = j .before .before .before in
+    let f = j .before .before .before .before in
     let t = f .before .before in
     let e = sym (room (f .before)) ∙ f .if1 .taken in
-    (rw (opened t, e) (j .judge-opened .ensures .0), λ p. volume t, rw (opened t, e) (j .judge-opened .ensures .1), rw (opened t, e) (j .judge-opened .ensures .2))
+    (rw (opened t, e) (j .judge-opened .ensures .0), λ p. volume t, rw (opened t, e) (j .judge-opened .ensures .1), rw (opened t, e) (j .judge-opened .ensures .2), λ p. lie t)
 
 returns-2 : tie.Need-returns-2
 unfolding verdict ready blockMarks headerMarks afterwards unless _then_
 returns-2 c =
     let t = c .before .before in
     let e = sym (room (c .before)) ∙ c .if1 .left in
-    (rw (opened t, e) refl, λ p. volume t, rw (opened t, e) refl, rw (opened t, e) refl)
+    (rw (opened t, e) refl, λ p. volume t, rw (opened t, e) refl, rw (opened t, e) refl, λ p. lie t)
 
 returns-3 : tie.Need-returns-3
 unfolding verdict ready blockMarks headerMarks afterwards _then_
@@ -71,7 +77,7 @@ returns-3 c =
     let o = c .before in
     let op = o .before .before .before in
     let e = sym (op .open .ensures .0) ∙ o .opened .given .1 in
-    (rw e refl, λ p. op .open .ensures .1 (passed-opens _ _ _ p), rw e refl, rw e refl)
+    (rw e refl, λ p. op .open .ensures .1 (passed-opens _ _ _ p), rw e refl, rw e refl, λ p. op .open .ensures .2 (passed-opens _ _ _ p))
 
 pub judge-volume-spec : {M : Type 1} → statement M
-judge-volume-spec = tie.close (tie.spec (search needs) (search needs) (search needs) judge-opened-requires (search needs) (search needs) (search needs) returns returns-2 returns-3)
+judge-volume-spec = tie.close (tie.spec open-requires (search needs) (search needs) judge-opened-requires (search needs) (search needs) (search needs) returns returns-2 returns-3)

@@ -1,9 +1,7 @@
--- Nothing else is read of a header that is not whole.
+-- M.EFNU is read only of a header that heads its file.
 use borrow.Author.Needs.{needs}
-use native.Mathlib.Omega.{arith}
 use denote.Ref.{now}
-use borrow.Author.Tests.{eq-eqb, ne-eqb}
-use Rattle.header.specs.Whole.{fault}
+use borrow.Author.Tests.{not-true, not-false}
 use Rattle.volume.specs.Opening.{alone}
 use Rattle.volume.proofs.opening.is_alone.Statement.{statement}
 use Rattle.volume.proofs.opening.is_alone.Tie as tie
@@ -11,17 +9,14 @@ use Rattle.volume.proofs.opening.is_alone.Tie as tie
 returns : tie.Need-returns
 unfolding alone
 returns c =
-    let a = c .before .before .before .args in
-    rw (ne-eqb (fault (a .blocks) (a .n) (now (a .h))) 0 (omega arith))
+    let r = c .before in
+    rw (← r .is-head .ensures, not-true (r .is-head .result) (c .if1 .taken))
 
 returns-2 : tie.Need-returns-2
 unfolding alone
 returns-2 c =
-    let s = c .before in
-    let a = s .before .before .before .before .before .args in
-    rw (eq-eqb (fault (a .blocks) (a .n) (now (a .h))) 0 (omega arith), ← s .before .h-fseq .ensures, ← s .segment .ensures, ← c .m-efnu .ensures)
+    let r = c .before .before in
+    rw (← r .is-head .ensures, not-false (r .is-head .result) (c .before .if1 .left), ← c .m-efnu .ensures)
 
 pub is-alone-spec : {M : Type 1} → statement M
-is-alone-spec =
-    tie.close
-    (tie.spec (search needs) returns (search needs) (search needs) (search needs) (search needs) returns-2)
+is-alone-spec = tie.close (tie.spec (search needs) returns (search needs) returns-2)

@@ -24,7 +24,7 @@ numbers c = sized-is (now (c .before .before .before .args .image)) (sizes c)
 returns : tie.Need-returns
 returns c =
     let r = c .before .before in
-    open-refused (now (r .before .before .args .image)) refusal.Size (c .refused .result) (c .refused .ensures)
+    open-refused (now (r .before .before .args .image)) refusal.Size (c .refused .result) _ (c .refused .ensures)
     (open-size (now (r .before .before .args .image)) (sym (r .is-sized .ensures) ∙ not-true (r .is-sized .result) (c .before .if1 .taken)))
 
 cast-blocks : tie.Need-cast-blocks
@@ -44,7 +44,7 @@ unfolding homed blocks positions
 returns-2 c =
     let h = c .before .before in
     let image = now (h .before .before .before .before .args .image) in
-    open-refused image refusal.Home (c .refused2 .result) (c .refused2 .ensures)
+    open-refused image refusal.Home (c .refused2 .result) _ (c .refused2 .ensures)
     (open-home image (sizes (h .before)) (le-ltb (homeIndex image) (positions (blocks image)) (omega (arith, h .home-index .ensures, c .before .if2 .taken))))
 
 position-requires : tie.Need-position-requires
@@ -54,12 +54,14 @@ position-requires c κs = omega (arith, numbers (c .before .before))
 open-at-requires : tie.Need-open-at-requires
 unfolding homed home blocks positions
 open-at-requires c κs =
-    let h = c .before .before in
+    let p = c .before in
+    let h = p .before .before in
     let image = now (h .before .before .before .before .args .image) in (
       sizes (h .before),
-      lt-ltb (homeIndex image) (positions (blocks image)) (omega (arith, h .home-index .ensures, c .before .if2 .left)),
+      lt-ltb (homeIndex image) (positions (blocks image)) (omega (arith, h .home-index .ensures, p .before .if2 .left)),
       refl,
-      c .position .ensures ∙ ap position (h .home-index .ensures),
+      p .position .ensures ∙ ap position (h .home-index .ensures),
+      h .before .before .before .before .pre,
     )
 
 returns-3 : tie.Need-returns-3

@@ -34,7 +34,7 @@ returns : tie.Need-returns
 returns c =
     let g = c .before .before in
     let s = g .before .before .before in
-    open-refused (now (s .args .image)) refusal.Geometry (c .refused .result) (c .refused .ensures)
+    open-refused (now (s .args .image)) refusal.Geometry (c .refused .result) _ (c .refused .ensures)
     (open-geometry (now (s .args .image)) (s .pre .0) (s .pre .1) (sym (fit g) ∙ not-true (g .has-geometry .result) (c .before .if1 .taken)))
 
 h-ibsz-requires : tie.Need-h-ibsz-requires
@@ -49,7 +49,8 @@ h-fmax-requires c κs = home-long (c .before .before .before .before)
 open-laid-out-requires : tie.Need-open-laid-out-requires
 unfolding ibsz iblb fmax
 open-laid-out-requires c κs =
-    let m = c .before .before in
+    let f = c .before in
+    let m = f .before .before in
     let g = m .before .before in
     let s = g .before .before .before in
     let b = home-read (g .before) in (
@@ -60,9 +61,10 @@ open-laid-out-requires c κs =
         blocks = s .pre .2;
         home = s .pre .3;
         ibsz = m .h-ibsz .ensures ∙ ap hIbsz b;
-        iblb = c .before .h-iblb .ensures ∙ ap hIblb b;
-        fmax = c .h-fmax .ensures ∙ ap hFmax b;
+        iblb = f .before .h-iblb .ensures ∙ ap hIblb b;
+        fmax = f .h-fmax .ensures ∙ ap hFmax b;
       },
+      s .pre .4,
     )
 
 returns-2 : tie.Need-returns-2

@@ -1,18 +1,24 @@
 -- The answer goes by the outcome.
 use borrow.Author.Needs.{needs}
-use mathlib.Core.Path.{sym, _∙_}
+use mathlib.Core.Path.{refl, sym, _∙_}
 use denote.Ref.{now}
+use Rattle.image.specs.Stores.{zeros}
 use Rattle.volume.specs.Home.{home}
 use Rattle.volume.specs.Opening.{openedVolume, volumeAnswer}
 use Rattle.volume.proofs.VolumeLaws.{says}
 use Rattle.volume.proofs.opening.open_volume.Statement.{statement}
 use Rattle.volume.proofs.opening.open_volume.Tie as tie
 
+-- The array lent for the places is new.
+open-requires : tie.Need-open-requires
+unfolding zeros
+open-requires c κs = refl
+
 returns : tie.Need-returns
 unfolding volumeAnswer openedVolume
 returns c =
     let o = c .before .before in
-    let image = now (o .before .before .args .image) in
+    let image = now (o .before .before .before .args .image) in
     let e = sym (o .«open» .ensures .0) ∙ c .enum-told .given .1 in
     rw (e, ← says image (o .«open» .result .volume) (o .«open» .ensures .1 e) .home)
 
@@ -23,4 +29,4 @@ returns-2 c =
     rw (sym (o .«open» .ensures .0) ∙ c .before .result .given .1)
 
 pub open-volume-spec : {M : Type 1} → statement M
-open-volume-spec = tie.close (tie.spec (search needs) (search needs) (search needs) returns returns-2)
+open-volume-spec = tie.close (tie.spec open-requires (search needs) (search needs) returns returns-2)
