@@ -203,6 +203,7 @@ class VolumeV(Case):
             map=20,
             map_blocks=1,
             vlev=257,
+            index_headers=1,
         )
         self.assertEqual(ods1.geometry(SAMPLE), expected)
         self.assertEqual(ods1.label(SAMPLE), ods1.Label(bytes(12), 0, 0, 0, 0))

@@ -58,7 +58,7 @@ pub fn explain(refused: Refused) -> Explained {
         Refusal::Size => ("The image is not a whole number of 512-byte blocks, or has fewer than 100 or more than 1,044,480".into(), COPY),
         Refusal::Home => ("No block at a home position (1, 256, 512 and so on) is a home block: this is no ODS-1 volume, or its home blocks are damaged".into(), COPY),
         Refusal::Geometry => ("The home block's fields do not fit each other or the size of the image, which may have been cut off".into(), COPY),
-        Refusal::Index => ("The header of the index file is damaged or does not map the index file as it must".into(), OTHER_COPY),
+        Refusal::Index => ("A header of the index file is damaged, links to one that is not as it must be, or does not map the index file as it must".into(), OTHER_COPY),
         Refusal::Storage => ("The header of the storage map file is damaged or does not fit the size of the volume".into(), OTHER_COPY),
         Refusal::Relvol => ("The third word of the ID is not 0, and volume sets are not supported".into(), "Give the ID with 0 as its third word."),
         Refusal::Number => ("The file number is not in use on this volume: the file was deleted, or never was".into(), LOOK),

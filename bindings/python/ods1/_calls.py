@@ -125,7 +125,7 @@ def delete(image: WritableImage, id: FileId, areas: WorkAreas) -> None:
 
 def geometry(image: Image) -> Geometry:
     """Where the parts of a volume lie."""
-    return Geometry(*call("ods1_geometry", image)[:9])
+    return Geometry(*call("ods1_geometry", image))
 
 
 def label(image: Image) -> Label:

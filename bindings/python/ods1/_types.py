@@ -135,6 +135,8 @@ class Geometry:
     map_blocks: int
     #: H.VLEV.
     vlev: int
+    #: How many headers the index file has.
+    index_headers: int
 
 
 @dataclass(frozen=True)

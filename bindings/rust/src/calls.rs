@@ -154,7 +154,7 @@ pub fn delete(image: &mut [u8], id: FileId, areas: &mut WorkAreas) -> Answer<()>
 /// Where the parts of a volume lie.
 pub fn geometry(image: &[u8]) -> Answer<Geometry> {
     let value = answer_of(|answer| words::geometry(image, answer))?;
-    let [blocks, home, ibsz, iblb, fmax, slots, map, map_blocks, vlev, _] = value;
+    let [blocks, home, ibsz, iblb, fmax, slots, map, map_blocks, vlev, index_headers] = value;
     Ok(Geometry {
         blocks: long(blocks),
         home: long(home),
@@ -165,6 +165,7 @@ pub fn geometry(image: &[u8]) -> Answer<Geometry> {
         map: long(map),
         map_blocks: long(map_blocks),
         vlev: word(vlev),
+        index_headers: long(index_headers),
     })
 }
 

@@ -123,6 +123,8 @@ pub struct Geometry {
     pub map_blocks: u32,
     /// H.VLEV.
     pub vlev: u16,
+    /// How many headers the index file has.
+    pub index_headers: u32,
 }
 
 /// A volume's label.

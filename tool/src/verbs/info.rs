@@ -23,14 +23,17 @@ fn volume_text(geometry: &Geometry, label: &Label) -> String {
         map,
         map_blocks,
         vlev,
+        index_headers,
     } = geometry;
     let (owner, name) = (uic_text(label.owner), label_text(label));
     let (index, storage) = (range(*iblb, *ibsz), range(*map, *map_blocks));
+    let file = counted(*index_headers, "header");
     format!(
         "volume {name:?} owner {owner} protection {:o} default {:o}\n\
          blocks {blocks}\n\
          home block LBN {home} level {vlev:o}\n\
          index map LBN {index} highest number {fmax} slots {slots}\n\
+         index file {file}\n\
          storage map LBN {storage}\n",
         label.protection, label.default_protection
     )
@@ -102,6 +105,7 @@ fn members(geometry: &Geometry, label: &Label, verdict: &Answer<Counts>, runs: &
         "index_map": {"lbn": geometry.iblb, "blocks": geometry.ibsz},
         "highest_number": geometry.fmax,
         "slots": geometry.slots,
+        "index_headers": geometry.index_headers,
         "storage_map": {"lbn": geometry.map, "blocks": geometry.map_blocks},
         "verdict": answer(verdict.as_ref().err().copied()),
         "free_runs": runs.collect::<Vec<_>>(),

@@ -313,6 +313,7 @@ fn described() -> (String, u32) {
          blocks 20480\n\
          home block LBN 1 level 401\n\
          index map LBN {} highest number {} slots {}\n\
+         index file 1 header\n\
          storage map LBN {}\n\
          verdict answer 0 DONE place 0\n\
          claimed {claimed}\n\
@@ -372,6 +373,7 @@ fn info_as_json() {
         "index_map": {"lbn": plan.h_iblb, "blocks": 1},
         "highest_number": plan.h_fmax,
         "slots": volume.last_slot(),
+        "index_headers": 1,
         "storage_map": {"lbn": plan.storage_map, "blocks": 5},
         "verdict": {"number": 0, "name": "DONE", "place": 0},
         "free_runs": runs,

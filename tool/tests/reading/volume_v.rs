@@ -55,6 +55,7 @@ const INFO: &str = "volume \"\" owner [0,0] protection 0 default 0\n\
     blocks 100\n\
     home block LBN 1 level 401\n\
     index map LBN 2 highest number 16 slots 16\n\
+    index file 1 header\n\
     storage map LBN 20\n\
     verdict answer 0 DONE place 0\n\
     claimed 26\n\
@@ -114,6 +115,7 @@ fn info() -> Value {
         "index_map": {"lbn": 2, "blocks": 1},
         "highest_number": 16,
         "slots": 16,
+        "index_headers": 1,
         "storage_map": {"lbn": 20, "blocks": 1},
         "verdict": {"number": 0, "name": "DONE", "place": 0},
         "free_runs": [
