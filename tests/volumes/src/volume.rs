@@ -141,6 +141,15 @@ pub struct Placed {
     pub record: Record,
 }
 
+impl Placed {
+    /// Puts the record into the block that has its place.
+    pub fn put(&self, block: &mut [u8]) {
+        let start = (self.place % BLOCK_RECORDS) as usize * RECORD_BYTES;
+        put_words(block, start, &self.record.id);
+        put_words(block, start + 6, &self.record.name);
+    }
+}
+
 /// The numbers of the files that every random volume has, for damages to aim at.
 #[derive(Clone, Copy, Debug, Default)]
 pub struct Roles {
@@ -304,15 +313,13 @@ impl Volume {
     /// Puts a record into a directory, at a place from 0.
     pub fn put_record(&mut self, directory: u16, place: u32, record: Record) {
         let lbns = self.file(directory).lbns();
-        let block = self.block_mut(lbns[(place / BLOCK_RECORDS) as usize]);
-        let start = (place % BLOCK_RECORDS) as usize * RECORD_BYTES;
-        put_words(block, start, &record.id);
-        put_words(block, start + 6, &record.name);
-        self.records.push(Placed {
+        let placed = Placed {
             directory,
             place,
             record,
-        });
+        };
+        placed.put(self.block_mut(lbns[(place / BLOCK_RECORDS) as usize]));
+        self.records.push(placed);
     }
 
     /// Which blocks a pointer of a file covers.
