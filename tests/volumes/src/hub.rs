@@ -412,6 +412,7 @@ fn put_records(volume: &mut Volume) {
 #[cfg(test)]
 mod tests {
     use super::*;
+    use model::{sound, verdict, Answer};
 
     /// Sees that what is put is what is wanted, that no block is taken twice, and that the header of
     /// each further segment of file 1 has its slot in the part before.
@@ -438,7 +439,20 @@ mod tests {
             assert!(volume.file(number).blocks() > 0);
         }
         assert!(volume.records.len() > 5);
+        expect_accepted(&volume);
         volume
+    }
+
+    /// Sees that a hub is sound, and that the verdict counts what was put there.
+    fn expect_accepted(volume: &Volume) {
+        let (blocks, h_fmax) = (volume.plan.blocks, volume.plan.h_fmax);
+        let claimed: u32 = volume.files.iter().map(File::blocks).sum();
+        let headers = volume.headers().count() as u32;
+        let counts = [blocks, claimed, blocks - claimed, headers].map(u64::from);
+        let (mut marks, mut links) = (vec![7; blocks as usize], vec![7; h_fmax.into()]);
+        let answer = verdict::judge(&volume.image, &mut marks, &mut links);
+        assert_eq!(answer, Answer::done(&counts), "{}", volume.describe());
+        assert!(sound::opens_and_is_sound(&volume.image));
     }
 
     #[test]
