@@ -146,7 +146,7 @@ fn sealed_blocks(volume: &Volume) -> Vec<Sealed> {
     }];
     for file in &volume.files {
         for header in &file.headers {
-            let expected = match (header.number, header.segment) {
+            let expected = match (file.number(), header.segment) {
                 (1, _) => Expected::Volume(Number::Index),
                 (2, _) => Expected::Volume(Number::Storage),
                 (_, 0) => Expected::File(file.id(), Number::Header),

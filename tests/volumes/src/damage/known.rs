@@ -42,13 +42,22 @@ fn of_known_header(target: Target, own: u16) -> Vec<Damage> {
             let extension = volume.file(volume.roles.chained).headers[1].clone();
             let mut edit = target.edit(volume);
             put_link(edit.map_mut(), extension.number, extension.sequence);
-            Some(target.not_whole(volume))
+            // Paper 02, 9/14: "no longer for an extension as such".
+            Some(match target {
+                Target::Index => target.done(volume),
+                _ => target.not_whole(volume),
+            })
         },
     ));
     all.push(Damage::new(
         format!("{}: a link with sequence 0", target.name()),
         move |volume| {
-            put_link(target.edit(volume).map_mut(), 256, 0);
+            // To a number that no header has.
+            let number = 256;
+            if volume.headers().any(|header| header.number == number) {
+                return None;
+            }
+            put_link(target.edit(volume).map_mut(), number, 0);
             Some(target.not_whole(volume))
         },
     ));
