@@ -5,9 +5,13 @@ mod chain;
 pub(crate) mod header;
 mod home;
 mod known;
+mod long_index;
 mod number;
 
 use crate::block::{is_sealed_header, is_sealed_home, seal_header, seal_home};
+use crate::hub::{hub, Hub};
+use crate::long_index::{fragmented_volume, long_volume, random_long_volume, MOST_HEADERS};
+use crate::random::Random;
 use crate::shapes::{Maker, Size};
 use crate::volume::Volume;
 use model::{Id, Number};
@@ -175,6 +179,11 @@ pub fn damages() -> Vec<Damage> {
     all
 }
 
+/// Every damage of an index file that has several headers, and of what stands on it.
+pub fn long_index_damages() -> Vec<Damage> {
+    long_index::damages()
+}
+
 /// Volumes to damage, of every kind that some damage needs: small ones, one whose chained file has
 /// 256 headers, and one whose maps have more than one block.
 pub fn volumes_to_damage(seed: u64, small: u64) -> Vec<Volume> {
@@ -187,6 +196,33 @@ pub fn volumes_to_damage(seed: u64, small: u64) -> Vec<Volume> {
     volumes.push(maker.find(Size::Blocks(4_097), |volume| {
         volume.plan.home > 1 && volume.plan.h_fmax > 4_096
     }));
+    volumes
+}
+
+/// Volumes to damage whose index file has several headers, of every kind that some damage needs: small
+/// ones, some whose index file has 256 headers and that have numbers not in use, some whose maps have
+/// more than one block, one whose index headers are full, and a hub.
+pub fn long_volumes_to_damage(seed: u64, small: u64) -> Vec<Volume> {
+    let random = |number| Random::of_case(seed, "long_volumes_to_damage", number);
+    let mut volumes: Vec<Volume> = (0..small)
+        .map(|number| random_long_volume(&mut random(number), Size::Small))
+        .collect();
+    let find = |make: &dyn Fn(&mut Random) -> Volume, test: &dyn Fn(&Volume) -> bool| {
+        let mut all = (1_000_000..).map(|number| make(&mut random(number)));
+        all.find(|volume| test(volume)).expect("another one")
+    };
+    let has_unused = |volume: &Volume| volume.unused_number().is_some();
+    let most = |random: &mut Random| long_volume(random, 1_300, (300, MOST_HEADERS));
+    volumes.push(find(&most, &has_unused));
+    volumes.push(find(&most, &|volume| {
+        has_unused(volume) && volume.plan.index_map_blocks() > 1
+    }));
+    volumes.push(find(
+        &|random| long_volume(random, 4_097, (900, 40)),
+        &|volume| volume.plan.home > 1 && volume.plan.h_fmax > 4_096,
+    ));
+    volumes.push(fragmented_volume(&mut random(2_000_000), 900));
+    volumes.push(hub(&Hub::SMALL));
     volumes
 }
 
@@ -205,12 +241,13 @@ mod tests {
 
     #[test]
     fn names_are_told_apart() {
-        let mut names: Vec<String> = damages().into_iter().map(|damage| damage.name).collect();
+        let damages = damages().into_iter().chain(long_index_damages());
+        let mut names: Vec<String> = damages.map(|damage| damage.name).collect();
         let all = names.len();
         names.sort_unstable();
         names.dedup();
         assert_eq!(names.len(), all);
-        assert!(all > 300, "{all} damages");
+        assert!(all > 400, "{all} damages");
     }
 
     /// How often a damage applies to volumes; each time it is answered as it says.
@@ -233,14 +270,23 @@ mod tests {
         applied
     }
 
-    #[test]
-    fn every_damage_is_answered_as_the_paper_says() {
-        let volumes = volumes_to_damage(6, 20);
-        for damage in damages() {
-            let left = applied(&damage, &volumes, Checksums::Left);
-            let put_right = applied(&damage, &volumes, Checksums::PutRight);
+    /// Sees that each damage applies to some of the volumes, and is answered as it says.
+    fn expect_applied(damages: Vec<Damage>, volumes: &[Volume]) {
+        for damage in damages {
+            let left = applied(&damage, volumes, Checksums::Left);
+            let put_right = applied(&damage, volumes, Checksums::PutRight);
             assert!(left > 0, "{} does not apply", damage.name);
             assert_eq!(put_right, if damage.of_checksum { 0 } else { left });
         }
+    }
+
+    #[test]
+    fn every_damage_is_answered_as_the_paper_says() {
+        expect_applied(damages(), &volumes_to_damage(6, 20));
+    }
+
+    #[test]
+    fn every_damage_of_a_long_index_is_answered_as_the_paper_says() {
+        expect_applied(long_index_damages(), &long_volumes_to_damage(6, 30));
     }
 }

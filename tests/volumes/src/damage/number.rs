@@ -30,7 +30,7 @@ fn opens_as(volume: &Volume, number: Number) -> Option<Expected> {
 }
 
 /// Puts H.FMAX, if the geometry allows it.
-fn put_h_fmax(volume: &mut Volume, h_fmax: u16) -> Option<()> {
+pub fn put_h_fmax(volume: &mut Volume, h_fmax: u16) -> Option<()> {
     let m = volume.plan.index_map_blocks();
     if h_fmax < 16 || u32::from(h_fmax).div_ceil(4_096) != m {
         return None;
