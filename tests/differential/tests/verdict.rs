@@ -127,7 +127,7 @@ fn named_flaws() {
         let volumes = volumes_to_judge(run.seed(), 12);
         let mut lender = Lender::new();
         let mut desk = Desk::default();
-        each_flawed(&volumes, |flawed| {
+        each_flawed(&flaws(), &volumes, |flawed| {
             compare_flawed(run, (&mut lender, &mut desk), &flawed);
         });
         run.expect_met("judge", [0, 16, 17, 18, 19, 21], 400);

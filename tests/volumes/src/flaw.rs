@@ -5,12 +5,16 @@
 mod badhome;
 mod files;
 mod links;
+mod long_index;
 mod map;
 mod order;
 mod twice;
 
 use crate::block::seal_header;
+use crate::damage::long_volumes_to_damage;
 use crate::header::{at, Areas, Header, Pointer, MOST_POINTERS};
+use crate::long_index::long_volume;
+use crate::random::Random;
 use crate::shapes::{Maker, Size};
 use crate::volume::{File, Volume};
 use model::Number;
@@ -86,6 +90,14 @@ pub fn flaws() -> Vec<Flaw> {
     all
 }
 
+/// Every flaw of a volume whose index file has several headers: those of any, and those of the index
+/// file.
+pub fn long_index_flaws() -> Vec<Flaw> {
+    let mut all = flaws();
+    all.extend(long_index::flaws());
+    all
+}
+
 /// A volume with a flaw: the flaw, the sound volume, the changed one, and what the verdict then is.
 pub struct Flawed<'a> {
     pub flaw: &'a Flaw,
@@ -99,9 +111,13 @@ const LARGE: u32 = 2_000;
 
 /// Gives each flaw on each volume that it applies to; on large volumes a quarter of those that small
 /// ones have shown often enough. Answers the flaws that apply to none.
-pub fn each_flawed(volumes: &[Volume], mut each: impl FnMut(Flawed)) -> Vec<String> {
+pub fn each_flawed(
+    flaws: &[Flaw],
+    volumes: &[Volume],
+    mut each: impl FnMut(Flawed),
+) -> Vec<String> {
     let mut none = Vec::new();
-    for (number, flaw) in flaws().iter().enumerate() {
+    for (number, flaw) in flaws.iter().enumerate() {
         let mut applied = 0;
         for (place, sound) in volumes.iter().enumerate() {
             let is_shown = applied >= 6 && (number + place) % 4 != 0;
@@ -152,6 +168,12 @@ fn add_pointer(volume: &mut Volume, number: u16, lbn: u32, blocks: u32) -> Optio
         }
     });
     Some(())
+}
+
+/// The number of the last header of the index file: what it maps more moves no block of the index file.
+fn last_index_header(volume: &Volume) -> u16 {
+    let last = volume.file(1).headers.last();
+    last.expect("a file has a header").number
 }
 
 /// Puts a header without pointers into the slot of an unused number, and the number in use.
@@ -206,6 +228,25 @@ pub fn volumes_to_judge(seed: u64, small: u64) -> Vec<Volume> {
     volumes
 }
 
+/// Volumes to judge whose index file has several headers, of every kind that some flaw needs: those to
+/// damage, some with homes passed over, and one whose chained file has 256 headers.
+pub fn long_volumes_to_judge(seed: u64, small: u64) -> Vec<Volume> {
+    let mut volumes = long_volumes_to_damage(seed, small);
+    let random = |number| Random::of_case(seed, "long_volumes_to_judge", number);
+    let find = |blocks, shape, test: &dyn Fn(&Volume) -> bool| {
+        let mut all = (0..).map(|number| long_volume(&mut random(number), blocks, shape));
+        let found = all.find(|volume| test(volume));
+        found.expect("there is always another one")
+    };
+    volumes.push(find(1_405, (60, 3), &|volume| volume.plan.home == 1_024));
+    volumes.push(find(1_405, (60, 30), &|volume| volume.plan.home == 768));
+    volumes.push(find(1_900, (475, 20), &|volume| {
+        let chained = volume.file(volume.roles.chained);
+        chained.headers.len() == 256 && volume.unused_number().is_some()
+    }));
+    volumes
+}
+
 #[cfg(test)]
 mod tests {
     use super::*;
@@ -215,7 +256,8 @@ mod tests {
 
     #[test]
     fn names_are_told_apart() {
-        let mut names: Vec<String> = flaws().into_iter().map(|flaw| flaw.name).collect();
+        let all = long_index_flaws().into_iter();
+        let mut names: Vec<String> = all.map(|flaw| flaw.name).collect();
         let all = names.len();
         names.sort_unstable();
         names.dedup();
@@ -234,13 +276,13 @@ mod tests {
         }
     }
 
-    #[test]
-    fn every_flaw_is_judged_as_the_paper_says() {
-        let volumes = volumes_to_judge(5, 16);
+    /// Sees that each flaw applies to some of the volumes and is judged as it says, and that each rule
+    /// is met often enough.
+    fn expect_judged(flaws: &[Flaw], volumes: &[Volume]) {
         let mut blocks = vec![0; 13_000];
         let mut headers = vec![0; 65_535];
         let mut met = BTreeMap::new();
-        let none = each_flawed(&volumes, |flawed| {
+        let none = each_flawed(flaws, volumes, |flawed| {
             let image = &flawed.changed.image;
             let (name, built) = (&flawed.flaw.name, flawed.sound.describe());
             assert!(volume::open(image).is_ok(), "{name}, {built}");
@@ -257,5 +299,15 @@ mod tests {
             let times = met.get(&number).copied().unwrap_or(0);
             assert!(times >= 60, "number {number} {times} times");
         }
+    }
+
+    #[test]
+    fn every_flaw_is_judged_as_the_paper_says() {
+        expect_judged(&flaws(), &volumes_to_judge(5, 16));
+    }
+
+    #[test]
+    fn every_flaw_on_a_long_index_is_judged_as_the_paper_says() {
+        expect_judged(&long_index_flaws(), &long_volumes_to_judge(5, 16));
     }
 }
