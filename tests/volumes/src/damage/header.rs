@@ -1,7 +1,7 @@
 //! Damages of a header, one or more for each of the twelve tests of "whole", in a header of each
 //! kind.
 
-use super::{Damage, Expected};
+use super::{one_index_header, Damage, Expected};
 use crate::block::{add_to_word, put_word, CHECKSUM};
 use crate::header::{at, in_map, Pointer};
 use crate::volume::Volume;
@@ -439,6 +439,14 @@ fn of_target(
     })
 }
 
+/// A damage of header 1 that moves what further headers of the index file map.
+fn of_only_index_header(damage: Damage) -> Damage {
+    Damage::new(damage.name, move |volume| {
+        one_index_header(volume)?;
+        (damage.edit)(volume)
+    })
+}
+
 /// All damages of headers.
 pub fn damages() -> Vec<Damage> {
     let mut all = Vec::new();
@@ -477,6 +485,9 @@ pub fn more_pointers(target: Target) -> Vec<Damage> {
         _ => Target::done,
     };
     let changes = POINTERS.iter();
-    let damage = |(name, change): &(&str, Change)| of_target(target, name, *change, expected);
-    changes.map(damage).collect()
+    let damages = changes.map(|(name, change)| of_target(target, name, *change, expected));
+    match target {
+        Target::Index => damages.map(of_only_index_header).collect(),
+        _ => damages.collect(),
+    }
 }

@@ -12,8 +12,24 @@ use crate::long_index::last_slot_of;
 use crate::volume::{File, Volume, FIRST_HEADERS};
 use model::{Id, Number};
 
-/// All damages of a long index.
+/// All damages of a long index. None applies to an index file of one header.
 pub fn damages() -> Vec<Damage> {
+    let all = of_several_headers().into_iter();
+    all.map(|damage| Damage {
+        name: damage.name,
+        of_checksum: damage.of_checksum,
+        edit: Box::new(move |volume| {
+            if volume.file(1).headers.len() < 2 {
+                return None;
+            }
+            (damage.edit)(volume)
+        }),
+    })
+    .collect()
+}
+
+/// The same, of volumes whose index file has several headers.
+fn of_several_headers() -> Vec<Damage> {
     let mut all = of_one_header(Target::SecondIndex);
     all.extend(of_one_header(Target::LastIndex));
     all.extend(more_pointers(Target::LastIndex));
