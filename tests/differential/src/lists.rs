@@ -69,6 +69,17 @@ impl<'a> List<'a> {
         list
     }
 
+    /// Makes random calls on a volume, compares them, and sees that what demand 3 says then holds.
+    pub fn compare(run: &mut Run, random: &mut Random, desk: &mut Desk, built: &Volume) {
+        let story = [("volume", built.describe())];
+        let changing = Changing::new(&built.image, &story);
+        let mut list = List::new(random, built, changing);
+        for _ in 0..CALLS {
+            list.step(run, random, desk);
+        }
+        list.expect_demand_3(run, random, desk);
+    }
+
     /// Makes a random call, and compares it.
     pub fn step(&mut self, run: &mut Run, random: &mut Random, desk: &mut Desk) {
         let call = self.random_call(random);
@@ -234,17 +245,16 @@ impl<'a> List<'a> {
     /// same blocks in the same order with the same bytes."
     fn expect_kept(&self, run: &mut Run) {
         let before = &self.built.image;
-        for file in kept::files(before) {
-            let mut ids = self.changing.calls.iter().filter_map(|(call, _)| call.id());
-            if ids.any(|id| file.is_named_by(id)) {
-                run.meet(NAMED, 1);
-                continue;
-            }
-            if !kept::is_kept(before, &self.changing.image, file) {
-                self.fail(run, &format!("{file:?} is not kept"));
-            }
-            run.meet(KEPT, 1);
+        let ids = self.changing.calls.iter().filter_map(|(call, _)| call.id());
+        let ids: Vec<Id> = ids.collect();
+        let mut kept = kept::files(before);
+        let all = kept.len();
+        kept.retain(|file| !ids.iter().any(|&id| file.is_named_by(id)));
+        if let Some(file) = kept::not_kept(before, &self.changing.image, &kept) {
+            self.fail(run, &format!("{file:?} is not kept"));
         }
+        kept.iter().for_each(|_| run.meet(KEPT, 1));
+        (kept.len()..all).for_each(|_| run.meet(NAMED, 1));
     }
 
     /// The sequence word of no slot falls, so that no ID comes again.

@@ -109,9 +109,14 @@ pub struct Flawed<'a> {
 /// From so many blocks on a volume takes long to change and to judge.
 const LARGE: u32 = 2_000;
 
-/// Gives each flaw on each volume that it applies to; on large volumes a quarter of those that small
-/// ones have shown often enough. Answers the flaws that apply to none.
-pub fn each_flawed(
+/// Gives each flaw on each volume that it applies to. Answers the flaws that apply to none.
+pub fn each_flawed(volumes: &[Volume], each: impl FnMut(Flawed)) -> Vec<String> {
+    each_flawed_by(&flaws(), volumes, each)
+}
+
+/// Gives each of some flaws on each volume that it applies to; on large volumes a quarter of those that
+/// small ones have shown often enough. Answers the flaws that apply to none.
+pub fn each_flawed_by(
     flaws: &[Flaw],
     volumes: &[Volume],
     mut each: impl FnMut(Flawed),
@@ -282,7 +287,7 @@ mod tests {
         let mut blocks = vec![0; 13_000];
         let mut headers = vec![0; 65_535];
         let mut met = BTreeMap::new();
-        let none = each_flawed(flaws, volumes, |flawed| {
+        let none = each_flawed_by(flaws, volumes, |flawed| {
             let image = &flawed.changed.image;
             let (name, built) = (&flawed.flaw.name, flawed.sound.describe());
             assert!(volume::open(image).is_ok(), "{name}, {built}");

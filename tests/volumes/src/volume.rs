@@ -254,10 +254,19 @@ impl Volume {
         self.index.len() as u32 - 2 - self.plan.index_map_blocks()
     }
 
+    /// The numbers from 6 on, rising, that have a slot and that no header of a file has.
+    pub fn unused_numbers(&self) -> impl Iterator<Item = u16> {
+        let last = self.last_slot().min(u32::from(self.plan.h_fmax)) as u16;
+        let mut is_used = vec![false; 65_536];
+        for header in self.headers() {
+            is_used[usize::from(header.number)] = true;
+        }
+        (6..=last).filter(move |&number| !is_used[usize::from(number)])
+    }
+
     /// The lowest number from 6 on that has a slot and that no header of a file has.
     pub fn unused_number(&self) -> Option<u16> {
-        let last = self.last_slot().min(u32::from(self.plan.h_fmax)) as u16;
-        (6..=last).find(|&number| self.headers().all(|header| header.number != number))
+        self.unused_numbers().next()
     }
 
     /// Puts a number's bit of the index map.

@@ -34,11 +34,7 @@ pub(crate) fn make_writable(random: &mut Random, volume: &mut Volume) {
 
 /// The numbers from 6 on that have a slot and that no file has.
 pub fn unused_numbers(volume: &Volume) -> Vec<u16> {
-    let last = volume.last_slot().min(u32::from(volume.plan.h_fmax)) as u16;
-    let mut numbers: Vec<u16> = (6..=last).collect();
-    let used: Vec<u16> = volume.headers().map(|header| header.number).collect();
-    numbers.retain(|number| !used.contains(number));
-    numbers
+    volume.unused_numbers().collect()
 }
 
 /// The blocks that no file has.
