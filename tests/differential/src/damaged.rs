@@ -44,20 +44,21 @@ pub fn compare_damaged(
     subject.compare_facts(run, random, sound, Depth::SOME);
 }
 
-/// One named damage of a volume, if it applies: what the paper says of it, and the model.
+/// One named damage of a volume: what the paper says of it, and the model. False where it does not
+/// apply.
 pub fn compare_named(
     run: &mut Run,
     (lender, desk): (&mut Lender, &mut Desk),
     (damage, checksums): (&Damage, Checksums),
     sound: &Volume,
-) {
+) -> bool {
     let mut random = run.random();
     let mut damaged = sound.clone();
     let Some(expected) = damage.apply(&mut damaged, checksums) else {
-        return;
+        return false;
     };
     if !run.next_case() {
-        return;
+        return true;
     }
     let story = [
         ("volume", sound.describe()),
@@ -73,6 +74,7 @@ pub fn compare_named(
         subject.expect(run, call, expected.number());
     }
     compare_damaged(run, &mut random, desk, sound, &subject);
+    true
 }
 
 /// Damages a volume in some ways one after the other, and tells them.

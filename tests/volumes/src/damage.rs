@@ -9,6 +9,7 @@ mod long_index;
 mod number;
 
 use crate::block::{is_sealed_header, is_sealed_home, seal_header, seal_home};
+use crate::flaw::takes_long;
 use crate::hub::{hub, Hub};
 use crate::long_index::{fragmented_volume, long_volume, random_long_volume, MOST_HEADERS};
 use crate::random::Random;
@@ -209,7 +210,7 @@ pub fn volumes_to_damage(seed: u64, small: u64) -> Vec<Volume> {
 
 /// Volumes to damage whose index file has several headers, of every kind that some damage needs: small
 /// ones, some whose index file has 256 headers and that have numbers not in use, some whose maps have
-/// more than one block, one whose index headers are full, and a hub.
+/// more than one block, one whose index headers are full, and a hub. Those that take long come last.
 pub fn long_volumes_to_damage(seed: u64, small: u64) -> Vec<Volume> {
     let random = |number| Random::of_case(seed, "long_volumes_to_damage", number);
     let mut volumes: Vec<Volume> = (0..small)
@@ -231,6 +232,7 @@ pub fn long_volumes_to_damage(seed: u64, small: u64) -> Vec<Volume> {
     ));
     volumes.push(fragmented_volume(&mut random(2_000_000), 900));
     volumes.push(hub(&Hub::SMALL));
+    volumes.sort_by_key(takes_long);
     volumes
 }
 

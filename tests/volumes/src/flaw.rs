@@ -106,16 +106,22 @@ pub struct Flawed<'a> {
     pub judged: Judged,
 }
 
-/// From so many blocks on a volume takes long to change and to judge.
+/// From so many blocks, or headers of its index file, on a volume takes long to change and to judge.
 const LARGE: u32 = 2_000;
+const LONG: usize = 60;
+
+/// Whether a volume takes long to change and to judge, so that not everything is tried on it.
+pub fn takes_long(volume: &Volume) -> bool {
+    volume.plan.blocks > LARGE || volume.file(1).headers.len() > LONG
+}
 
 /// Gives each flaw on each volume that it applies to. Answers the flaws that apply to none.
 pub fn each_flawed(volumes: &[Volume], each: impl FnMut(Flawed)) -> Vec<String> {
     each_flawed_by(&flaws(), volumes, each)
 }
 
-/// Gives each of some flaws on each volume that it applies to; on large volumes a quarter of those that
-/// small ones have shown often enough. Answers the flaws that apply to none.
+/// Gives each of some flaws on each volume that it applies to; where it takes long, a quarter of those
+/// that other volumes have shown often enough. Answers the flaws that apply to none.
 pub fn each_flawed_by(
     flaws: &[Flaw],
     volumes: &[Volume],
@@ -126,7 +132,7 @@ pub fn each_flawed_by(
         let mut applied = 0;
         for (place, sound) in volumes.iter().enumerate() {
             let is_shown = applied >= 6 && (number + place) % 4 != 0;
-            if sound.plan.blocks > LARGE && is_shown {
+            if takes_long(sound) && is_shown {
                 continue;
             }
             let mut changed = sound.clone();
@@ -234,7 +240,8 @@ pub fn volumes_to_judge(seed: u64, small: u64) -> Vec<Volume> {
 }
 
 /// Volumes to judge whose index file has several headers, of every kind that some flaw needs: those to
-/// damage, some with homes passed over, and one whose chained file has 256 headers.
+/// damage, some with homes passed over, and one whose chained file has 256 headers. Those that take long
+/// come last.
 pub fn long_volumes_to_judge(seed: u64, small: u64) -> Vec<Volume> {
     let mut volumes = long_volumes_to_damage(seed, small);
     let random = |number| Random::of_case(seed, "long_volumes_to_judge", number);
@@ -249,6 +256,7 @@ pub fn long_volumes_to_judge(seed: u64, small: u64) -> Vec<Volume> {
         let chained = volume.file(volume.roles.chained);
         chained.headers.len() == 256 && volume.unused_number().is_some()
     }));
+    volumes.sort_by_key(takes_long);
     volumes
 }
 
