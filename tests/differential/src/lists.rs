@@ -9,6 +9,7 @@ use model::{kept, sound, verdict, Id, Number};
 use volumes::block::word;
 use volumes::directory::name_words;
 use volumes::header::at;
+use volumes::long_index::last_slot_of;
 use volumes::writable::unused_numbers;
 use volumes::{Random, Volume};
 
@@ -23,6 +24,10 @@ pub const NAMED: &str = "file named";
 
 /// The kind of what is met where a removed ID was refused, with the number of the refusal.
 pub const REMOVED: &str = "removed ID";
+
+/// The kind of what is met where a file was created: 1 where its slot is past the part of the index file
+/// that header 1 maps, else 0.
+pub const CREATED_FAR: &str = "file created past header 1's part";
 
 /// A list under way: the volume as it was built, the image as the calls have left it, and the IDs
 /// that calls are made with.
@@ -101,6 +106,8 @@ impl<'a> List<'a> {
                 if self.created.contains(&id) {
                     self.fail(run, &format!("{id:?} is created twice"));
                 }
+                let is_far = u32::from(id.number) > last_slot_of(self.built, 1);
+                run.meet(CREATED_FAR, u64::from(is_far));
                 self.created.push(id);
                 self.there.push(id);
             }
