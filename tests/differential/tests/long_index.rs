@@ -13,7 +13,7 @@ use differential::Run;
 use library::Lender;
 use volumes::accident::{random_changes, random_flaws, random_index_changes};
 use volumes::damage::{damages, long_index_damages, long_volumes_to_damage, Checksums, Damage};
-use volumes::flaw::{each_flawed_by, long_index_flaws, long_volumes_to_judge, takes_long};
+use volumes::flaw::{each_flawed_by, long_index_flaws, long_volumes_to_judge, tried_one_in};
 use volumes::long_index::random_long_volume;
 use volumes::shapes::Size;
 
@@ -30,8 +30,8 @@ const LINKS: std::ops::RangeInclusive<u64> = 1..=16;
 /// The bad links but those to a header that is not whole.
 const OTHER_LINKS: std::ops::RangeInclusive<u64> = 13..=16;
 
-/// Every named damage on some volumes, with checksums put right and left; where a volume takes long, one
-/// in twelve of those that other volumes have shown often enough.
+/// Every named damage on some volumes, with checksums put right and left; where a volume takes long, some
+/// of those that other volumes have shown often enough.
 #[test]
 fn named_damages() {
     Run::of(module_path!(), "named_damages", 5_000, |run| {
@@ -41,8 +41,7 @@ fn named_damages() {
         for (number, damage) in all_damages().iter().enumerate() {
             let mut applied = 0;
             for (place, sound) in volumes.iter().enumerate() {
-                let is_shown = applied >= 4 && (number + place) % 12 != 0;
-                if takes_long(sound) && is_shown {
+                if applied >= 4 && (number + place) % tried_one_in(sound) != 0 {
                     continue;
                 }
                 for checksums in [Checksums::PutRight, Checksums::Left] {
@@ -53,7 +52,7 @@ fn named_damages() {
             }
         }
         run.expect_met("open_volume", [0, 2, 4, 5], 200);
-        run.expect_met("open_volume", [3], 80);
+        run.expect_met("open_volume", [3], 60);
         run.expect_met("open_file", 6..=12, 200);
         run.expect_met(BAD_INDEX, LINKS, 5);
         run.expect_met(BAD_INDEX, [BAD_HEADER_1, BAD_FIRST_BLOCKS], 20);
@@ -135,7 +134,7 @@ fn random_damages() {
 #[test]
 fn named_flaws() {
     Run::of(module_path!(), "named_flaws", 4_000, |run| {
-        let volumes = long_volumes_to_judge(run.seed(), 4);
+        let volumes = long_volumes_to_judge(run.seed(), 3);
         let mut lender = Lender::new();
         let mut desk = Desk::default();
         each_flawed_by(&long_index_flaws(), &volumes, |flawed| {

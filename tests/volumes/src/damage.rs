@@ -9,7 +9,7 @@ mod long_index;
 mod number;
 
 use crate::block::{is_sealed_header, is_sealed_home, seal_header, seal_home};
-use crate::flaw::takes_long;
+use crate::flaw::tried_one_in;
 use crate::hub::{hub, Hub};
 use crate::long_index::{fragmented_volume, long_volume, random_long_volume, MOST_HEADERS};
 use crate::random::Random;
@@ -232,7 +232,7 @@ pub fn long_volumes_to_damage(seed: u64, small: u64) -> Vec<Volume> {
     ));
     volumes.push(fragmented_volume(&mut random(2_000_000), 900));
     volumes.push(hub(&Hub::SMALL));
-    volumes.sort_by_key(takes_long);
+    volumes.sort_by_key(tried_one_in);
     volumes
 }
 
@@ -297,12 +297,12 @@ mod tests {
 
     #[test]
     fn every_damage_of_a_long_index_is_answered_as_the_paper_says() {
-        let volumes = long_volumes_to_damage(6, 30);
+        let volumes = long_volumes_to_damage(6, 20);
         expect_applied(long_index_damages(), &volumes);
         let all = damages();
         let apply = all.iter().filter(|damage| {
-            let times = applied(damage, &volumes[..20], Checksums::Left);
-            times + applied(damage, &volumes[20..], Checksums::PutRight) > 0
+            let times = applied(damage, &volumes[..10], Checksums::Left);
+            times + applied(damage, &volumes[10..], Checksums::PutRight) > 0
         });
         assert!(apply.count() + 10 > all.len());
     }

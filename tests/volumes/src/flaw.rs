@@ -110,9 +110,14 @@ pub struct Flawed<'a> {
 const LARGE: u32 = 2_000;
 const LONG: usize = 60;
 
-/// Whether a volume takes long to change and to judge, so that not everything is tried on it.
-pub fn takes_long(volume: &Volume) -> bool {
-    volume.plan.blocks > LARGE || volume.file(1).headers.len() > LONG
+/// One in how many things is tried on a volume that others have shown often enough: all of them, unless
+/// it takes long to change and to judge.
+pub fn tried_one_in(volume: &Volume) -> usize {
+    match volume.file(1).headers.len() {
+        headers if headers > LONG => 16,
+        _ if volume.plan.blocks > LARGE => 4,
+        _ => 1,
+    }
 }
 
 /// Gives each flaw on each volume that it applies to. Answers the flaws that apply to none.
@@ -120,8 +125,8 @@ pub fn each_flawed(volumes: &[Volume], each: impl FnMut(Flawed)) -> Vec<String> 
     each_flawed_by(&flaws(), volumes, each)
 }
 
-/// Gives each of some flaws on each volume that it applies to; where it takes long, a quarter of those
-/// that other volumes have shown often enough. Answers the flaws that apply to none.
+/// Gives each of some flaws on each volume that it applies to; where it takes long, some of those that
+/// other volumes have shown often enough. Answers the flaws that apply to none.
 pub fn each_flawed_by(
     flaws: &[Flaw],
     volumes: &[Volume],
@@ -131,8 +136,7 @@ pub fn each_flawed_by(
     for (number, flaw) in flaws.iter().enumerate() {
         let mut applied = 0;
         for (place, sound) in volumes.iter().enumerate() {
-            let is_shown = applied >= 6 && (number + place) % 4 != 0;
-            if takes_long(sound) && is_shown {
+            if applied >= 6 && (number + place) % tried_one_in(sound) != 0 {
                 continue;
             }
             let mut changed = sound.clone();
@@ -256,7 +260,7 @@ pub fn long_volumes_to_judge(seed: u64, small: u64) -> Vec<Volume> {
         let chained = volume.file(volume.roles.chained);
         chained.headers.len() == 256 && volume.unused_number().is_some()
     }));
-    volumes.sort_by_key(takes_long);
+    volumes.sort_by_key(tried_one_in);
     volumes
 }
 
@@ -321,6 +325,6 @@ mod tests {
 
     #[test]
     fn every_flaw_on_a_long_index_is_judged_as_the_paper_says() {
-        expect_judged(&long_index_flaws(), &long_volumes_to_judge(5, 16));
+        expect_judged(&long_index_flaws(), &long_volumes_to_judge(5, 8));
     }
 }

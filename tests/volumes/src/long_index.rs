@@ -224,7 +224,7 @@ mod tests {
 
     #[test]
     fn long_volumes_open_as_built() {
-        for seed in 0..1_000 {
+        for seed in 0..500 {
             let volume = random_long_volume(&mut Random::new(seed), Size::Small);
             expect_long(&volume, volume.file(1).headers.len());
         }
