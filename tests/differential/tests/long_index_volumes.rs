@@ -1,19 +1,22 @@
 //! Sound volumes whose index file has several headers: the library against the builder and against the
 //! model, and lists of create, extend and delete calls with what demand 3 says after each.
 
+use differential::asked::opening_of;
 use differential::built::compare_built;
 use differential::facts::{expect_each_met, Depth};
-use differential::images::{Call, Subject};
+use differential::images::{Asked, Call, Subject};
 use differential::judging::Desk;
 use differential::lists::{List, CREATED_FAR, KEPT, NAMED, REMOVED};
 use differential::{Random, Run};
 use library::Lender;
 use model::{Id, Number};
-use volumes::header::Header;
+use volumes::flaw::Judged;
+use volumes::header::{pointers_of, Areas, Header, Pointer, MOST_POINTERS};
 use volumes::long_index::{
     last_slot_of, long_volume, random_long_volume, random_long_volume_to_write, MOST_HEADERS,
 };
 use volumes::shapes::Size;
+use volumes::volume::{File, Plan};
 use volumes::Volume;
 
 /// The kinds of volumes that are met: how many headers the index file has; and 1 where a header of it
@@ -156,6 +159,114 @@ fn every_number_of_headers() {
         run.expect_met("open_volume", [0], 255);
         run.expect_met(HEADERS, 2..=256, 1);
         expect_each_met(run, &[0], 255);
+    });
+}
+
+/// A volume whose index file is as long as can be: 256 headers of 113 pointers, all but the first three
+/// of 256 blocks. Slots 17 to 272 lie where the fourth says, and the further headers are in some of
+/// them; all other pointers cover the same blocks, which opening does not ask about.
+fn longest_index() -> Volume {
+    let plan = Plan {
+        blocks: 700,
+        home: 1,
+        h_vlev: 257,
+        h_fmax: 65_535,
+        h_iblb: 300,
+        more_slots: (400..656).collect(),
+        control: 690,
+        storage_map: 691,
+    };
+    let pointer = |lbn, blocks| Pointer { lbn, blocks };
+    let mut first = vec![pointer(0, 1), pointer(1, 1), pointer(300, 32)];
+    first.push(pointer(400, 256));
+    first.resize(MOST_POINTERS, pointer(2, 256));
+    let storage = pointers_of(&plan.storage_lbns());
+    let mut volume = Volume::new(plan, vec![0; 512 * 700]);
+    let headers = (0..256).map(|segment: u16| Header {
+        segment: segment as u8,
+        link: if segment < 255 {
+            (6 + segment, 9)
+        } else {
+            (0, 0)
+        },
+        areas: Areas::LARGEST,
+        ..match segment {
+            0 => Header::new(1, 1, first.clone()),
+            _ => Header::new(5 + segment, 9, vec![pointer(2, 256); MOST_POINTERS]),
+        }
+    });
+    volume.add(File {
+        headers: headers.collect(),
+    });
+    volume.add(File {
+        headers: vec![Header::new(2, 2, storage)],
+    });
+    for number in 3..=5 {
+        volume.add(File {
+            headers: vec![Header::new(number, number, Vec::new())],
+        });
+    }
+    volume
+}
+
+/// The longest index file: its last VBN, slots up to the last number, and one past each.
+#[test]
+fn the_longest_index_file() {
+    Run::of(module_path!(), "the_longest_index_file", 1, |run| {
+        if !run.next_case() {
+            return;
+        }
+        let volume = longest_index();
+        let index = Id::from_words([1, 1, 0]);
+        let blocks = 34 + 256 + 109 * 256 + 255 * 113 * 256;
+        assert_eq!(volume.file(1).blocks(), blocks);
+        let mut lender = Lender::new();
+        let image = lender.lend(&volume.image);
+        let subject = Subject { image, story: &[] };
+        let m = 16;
+        let slots = u64::from(blocks) - 2 - m;
+        let geometry = [700, 1, m, 300, 65_535, slots, 691, 1, 257];
+        subject.expect_words(run, Call::Geometry, &geometry);
+        subject.expect_words(run, Call::OpenFile(index), &[u64::from(blocks)]);
+        subject.expect_words(run, Call::Map(index, blocks), &[257]);
+        subject.expect(run, Call::Map(index, blocks + 1), Number::Vbn);
+        let mut random = Random::new(run.seed());
+        subject.compare_volume(run);
+        // Number 65,535 has VBN 65,553: 34 blocks, 255 pointers, and 238 blocks of one at LBN 2 come first.
+        let last = Id::from_words([65_535, 0, 0]);
+        subject.expect(run, Call::OpenFile(last), Number::Number);
+        let mut changed = volume.clone();
+        Header::new(65_535, 7, Vec::new()).put(changed.block_mut(2 + 238));
+        changed.put_in_use(65_535, true);
+        let mut other = Lender::new();
+        let with_last = Subject {
+            image: other.lend(&changed.image),
+            story: &[("number", "65,535 in use".to_string())],
+        };
+        let last = Id::from_words([65_535, 7, 0]);
+        with_last.expect_words(run, Call::OpenFile(last), &[0]);
+        let mut desk = Desk::default();
+        for subject in [&subject, &with_last] {
+            let asked = Asked {
+                vbns: (0..40)
+                    .map(|_| random.long_between(0, blocks + 1))
+                    .collect(),
+                ..opening_of(index)
+            };
+            subject.compare_file(run, &asked);
+            for number in [1, 6, 16, 17, 260, 261, 272, 273, 4_097, 65_535] {
+                for sequence in [1, 7, 9] {
+                    let id = Id::from_words([number, sequence, 0]);
+                    subject.compare_file(run, &opening_of(id));
+                }
+            }
+            let judged = Judged::Refused(Number::Twice, 2);
+            subject.expect_judged(run, &mut random, &mut desk, judged);
+            subject.compare_verdict(run, &mut random, &mut desk);
+        }
+        run.expect_met("map", [0], 40);
+        run.expect_met("open_file", [0, 7, 9, 10], 2);
+        run.expect_met("judge", [19], 2);
     });
 }
 
