@@ -197,11 +197,11 @@ fn further_number(random: &mut Random, names: &[(u16, u16)], last: u16) -> u16 {
     }
 }
 
-/// The number of the last slot that the first so many headers of file 1 map.
+/// The number of the last slot that the first so many headers of file 1 map, or 0.
 pub fn last_slot_of(volume: &Volume, headers: usize) -> u32 {
     let headers = &volume.file(1).headers[..headers];
     let mapped: u32 = headers.iter().map(Header::blocks).sum();
-    mapped - 2 - volume.plan.index_map_blocks()
+    mapped.saturating_sub(2 + volume.plan.index_map_blocks())
 }
 
 #[cfg(test)]
