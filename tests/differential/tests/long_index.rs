@@ -52,13 +52,14 @@ fn named_damages() {
             }
         }
         run.expect_met("open_volume", [0, 2, 4, 5], 200);
-        run.expect_met("open_volume", [3], 60);
+        run.expect_met("open_volume", [3], 40);
         run.expect_met("open_file", 6..=12, 200);
         run.expect_met(BAD_INDEX, LINKS, 5);
         run.expect_met(BAD_INDEX, [BAD_HEADER_1, BAD_FIRST_BLOCKS], 20);
         run.expect_met(UNMET_TEST, 1..=12, 5);
         run.expect_met(BAD_LINK, 1..=16, 5);
-        run.expect_met("judge", [0, 2, 3, 4, 5, 16, 17, 18], 100);
+        run.expect_met("judge", [0, 2, 4, 5, 16, 17, 18], 100);
+        run.expect_met("judge", [3], 40);
         expect_all_met(run, 50);
     });
 }
@@ -66,13 +67,15 @@ fn named_damages() {
 /// Two to four named damages at once: the first refusal is given.
 #[test]
 fn damages_together() {
-    Run::of(module_path!(), "damages_together", 1_200, |run| {
+    Run::of(module_path!(), "damages_together", 2_000, |run| {
         let volumes = long_volumes_to_damage(run.seed(), 40);
         let small = &volumes[..40];
-        let damages = all_damages();
+        // Those of the index file come as often as all others.
+        let mut damages = all_damages();
+        damages.extend(long_index_damages());
         let mut lender = Lender::new();
         let mut desk = Desk::default();
-        run.random_cases(1_200, |run, random| {
+        run.random_cases(2_000, |run, random| {
             let sound = random.pick(small);
             let mut damaged = sound.clone();
             let told = damage_together(random, &damages, &mut damaged);
