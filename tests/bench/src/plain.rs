@@ -141,9 +141,50 @@ impl<'a> Header<'a> {
         (word(self.map, 2), word(self.map, 4))
     }
 
-    /// Whether it can be the header of file 1 or 2.
+    /// Whether it can be the first header of file 1 or 2.
     fn is_known(&self, number: u16) -> bool {
-        self.sequence() == number && self.segment() == 0 && self.link().0 == 0
+        self.sequence() == number && self.segment() == 0
+    }
+}
+
+/// The LBNs of the headers of the index file, in order.
+#[derive(Clone, Copy)]
+struct Index {
+    lbns: [u32; 256],
+    count: usize,
+}
+
+impl Index {
+    /// The pointers of each header.
+    fn pointers<'a>(&'a self, image: &'a [u8]) -> impl Iterator<Item = Pointers<'a>> + 'a {
+        let lbns = self.lbns[..self.count].iter();
+        lbns.map(|&lbn| Header::known(block(image, lbn)).pointers())
+    }
+
+    /// The LBN of a block, counted from 0.
+    fn lbn(&self, image: &[u8], mut ahead: u32) -> Option<u32> {
+        for pointers in self.pointers(image) {
+            match pointers.lbn(ahead) {
+                Ok(lbn) => return Some(lbn),
+                Err(past) => ahead = past,
+            }
+        }
+        None
+    }
+
+    /// How many blocks they cover.
+    fn blocks(&self, image: &[u8]) -> u32 {
+        self.pointers(image).map(|pointers| pointers.blocks()).sum()
+    }
+
+    /// The LBN of each block, in order.
+    fn lbns<'a>(&'a self, image: &'a [u8]) -> impl Iterator<Item = u32> + 'a {
+        let pointers = self.pointers(image).map(|pointers| pointers.0);
+        let pointers = pointers.flat_map(|bytes| bytes.chunks_exact(4));
+        pointers.flat_map(|bytes| {
+            let lbn = u32::from_le_bytes([bytes[2], bytes[3], bytes[0], 0]);
+            lbn..lbn + u32::from(bytes[1]) + 1
+        })
     }
 }
 
@@ -156,7 +197,7 @@ struct Volume<'a> {
     h_iblb: u32,
     /// m, the blocks of the index map.
     m: u32,
-    index: Pointers<'a>,
+    index: Index,
     /// The LBN of the first block of bits of the storage map.
     bits: u32,
 }
@@ -193,6 +234,8 @@ impl<'a> Volume<'a> {
         }
         let header = Header::whole(block(image, h_iblb + m), 1, blocks);
         let header = header.filter(|it| it.is_known(1)).ok_or(INDEX)?;
+        let mut lbns = [0; 256];
+        lbns[0] = h_iblb + m;
         let mut volume = Volume {
             image,
             blocks,
@@ -200,20 +243,43 @@ impl<'a> Volume<'a> {
             h_fmax,
             h_iblb,
             m,
-            index: header.pointers(),
+            index: Index { lbns, count: 1 },
             bits: 0,
         };
-        if !volume.index_is_right() {
+        if !volume.index_is_right() || !volume.follow_index(header) {
             return Err(INDEX);
         }
         volume.bits = volume.storage_bits().ok_or(STORAGE)?;
         Ok(volume)
     }
 
-    /// Whether the index file maps the blocks that it must.
+    /// Takes the headers after the first into the index file, each from a slot that those before it map.
+    /// False where a link is bad.
+    fn follow_index(&mut self, mut header: Header<'a>) -> bool {
+        loop {
+            let (number, sequence) = header.link();
+            if number == 0 {
+                return true;
+            }
+            let Some(lbn) = self.slot_lbn(number) else {
+                return false;
+            };
+            let Some(next) = Header::whole(block(self.image, lbn), number, self.blocks) else {
+                return false;
+            };
+            let segment = u16::from(header.segment()) + 1;
+            if next.sequence() != sequence || u16::from(next.segment()) != segment {
+                return false;
+            }
+            self.index.lbns[self.index.count] = lbn;
+            self.index.count += 1;
+            header = next;
+        }
+    }
+
+    /// Whether the first header of the index file maps the blocks that it must.
     fn index_is_right(&self) -> bool {
-        let pointers = self.index.iter();
-        let mut mapped = pointers.flat_map(|(lbn, blocks)| lbn..lbn + blocks);
+        let mut mapped = self.index.lbns(self.image);
         let known = self.h_iblb..self.h_iblb + self.m + 16;
         let mut expected = [0, self.home].into_iter().chain(known);
         expected.all(|lbn| mapped.next() == Some(lbn))
@@ -223,7 +289,7 @@ impl<'a> Volume<'a> {
     fn storage_bits(&self) -> Option<u32> {
         let q = self.blocks.div_ceil(4_096);
         let header = Header::whole(block(self.image, self.h_iblb + self.m + 1), 2, self.blocks);
-        let header = header.filter(|it| it.is_known(2))?;
+        let header = header.filter(|it| it.is_known(2) && it.link().0 == 0)?;
         let pointers = header.pointers();
         let mut pointers = pointers.iter();
         let (control, bits) = match (pointers.next(), pointers.next(), pointers.next()) {
@@ -251,7 +317,7 @@ impl<'a> Volume<'a> {
         if number == 0 || number > self.h_fmax || !self.in_use(number.into()) {
             return None;
         }
-        self.index.lbn(1 + self.m + u32::from(number)).ok()
+        self.index.lbn(self.image, 1 + self.m + u32::from(number))
     }
 
     /// The block of a number's slot, if it is in use and has one.
@@ -530,8 +596,7 @@ impl<'a> Volume<'a> {
 
     /// The LBN of each slot of a number up to H.FMAX, run by run.
     fn slot_lbns(&self) -> impl Iterator<Item = u32> + '_ {
-        let pointers = self.index.iter();
-        let lbns = pointers.flat_map(|(lbn, blocks)| lbn..lbn + blocks);
+        let lbns = self.index.lbns(self.image);
         lbns.skip(2 + self.m as usize).take(self.h_fmax.into())
     }
 
@@ -668,10 +733,11 @@ impl<'a> Volume<'a> {
 mod tests {
     use super::*;
     use model::{directory, file, verdict, volume, Id, Name, Number, Vbn};
-    use volumes::accident::{random_changes, random_flaws};
+    use volumes::accident::{random_changes, random_flaws, random_index_changes};
     use volumes::damage::{damages, volumes_to_damage, Checksums};
     use volumes::directory::name_words;
     use volumes::flaw::{each_flawed, volumes_to_judge};
+    use volumes::long_index::random_long_volume;
     use volumes::shapes::{random_volume, Size};
     use volumes::{Random, Volume};
 
@@ -773,6 +839,14 @@ mod tests {
             expect_image(&mut met, &sound, &damaged.image);
             expect_image(&mut met, &sound, &damaged.image[1..]);
         }
+        for seed in 0..500 {
+            let mut random = Random::new(seed);
+            let sound = random_long_volume(&mut random, Size::Small);
+            let mut damaged = sound.clone();
+            random_index_changes(&mut random, &mut damaged);
+            expect_image(&mut met, &sound, &sound.image);
+            expect_image(&mut met, &sound, &damaged.image);
+        }
         expect_met(&met, 0..=15);
     }
 
@@ -793,6 +867,10 @@ mod tests {
             expect_verdict(&mut met, &changed.image, (blocks, h_fmax));
             expect_verdict(&mut met, &changed.image, (blocks - 1, h_fmax));
             expect_verdict(&mut met, &changed.image, (blocks, h_fmax - 1));
+            let mut changed = random_long_volume(&mut random, Size::Small);
+            random_flaws(&mut random, &mut changed);
+            let (blocks, h_fmax) = (changed.plan.blocks as usize, changed.plan.h_fmax.into());
+            expect_verdict(&mut met, &changed.image, (blocks, h_fmax));
         }
         expect_met(&met, 16..=21);
     }

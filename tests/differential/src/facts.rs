@@ -267,6 +267,10 @@ fn aimed(volume: &Volume) -> Vec<u16> {
     aimed.retain(|&number| number != 0);
     let chained = volume.files.iter().find(|it| it.number() == roles.chained);
     aimed.extend(chained.iter().map(|file| file.headers[1].number));
+    let further = volume.file(1).headers.iter().skip(1);
+    let further: Vec<u16> = further.map(|header| header.number).collect();
+    aimed.extend(further.first());
+    aimed.extend(further.last());
     aimed
 }
 

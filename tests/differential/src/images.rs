@@ -3,7 +3,7 @@
 use crate::run::{first_difference, show_answer, Line, Run};
 use library::Words;
 use model::file::{self, Opened};
-use model::volume::{self, BadLink};
+use model::volume::{self, BadIndex, BadLink};
 use model::{attributes, directory, facts, runs};
 use model::{FileNumber, Id, Lbn, Name, Number, Vbn};
 
@@ -172,10 +172,13 @@ impl Subject<'_> {
         self.compare(run, call, (volume, &no_file));
     }
 
-    /// Compares opening the volume.
+    /// Compares opening the volume, and counts what was wrong with its index file.
     pub fn compare_volume(&self, run: &mut Run) {
         let volume = volume::open(self.image);
         self.compare_alone(run, Call::OpenVolume, &volume);
+        if let Some(index) = volume::bad_index(self.image) {
+            run.meet(BAD_INDEX, index_number(index));
+        }
     }
 
     /// Compares all that is asked of one file.
@@ -219,6 +222,22 @@ pub const UNMET_TEST: &str = "unmet test of a header";
 
 /// The kind of what is met where a link is bad: see `link_number`.
 pub const BAD_LINK: &str = "bad link";
+
+/// The kind of what is met where an index file is bad: as for a link, or see below.
+pub const BAD_INDEX: &str = "bad index file";
+
+/// The numbers of a header 1 that is not one, and of one that maps not what it must.
+pub const BAD_HEADER_1: u64 = 17;
+pub const BAD_FIRST_BLOCKS: u64 = 18;
+
+/// A number for what is wrong with an index file.
+fn index_number(index: BadIndex) -> u64 {
+    match index {
+        BadIndex::Link(link) => link_number(link),
+        BadIndex::Header1 => BAD_HEADER_1,
+        BadIndex::FirstBlocks => BAD_FIRST_BLOCKS,
+    }
+}
 
 /// A number for what is wrong with a link: 1 to 12 for a test of a whole header, then 13 to 16.
 fn link_number(link: BadLink) -> u64 {

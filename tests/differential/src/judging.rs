@@ -7,7 +7,7 @@ use model::verdict::{self, Offence, Refusal, Verdict};
 use model::volume::{self, BadLink};
 use model::{sound, Answer};
 use volumes::flaw::Judged;
-use volumes::Random;
+use volumes::{Random, Volume};
 
 /// The two work areas, with what they hold.
 #[derive(Clone, Debug, PartialEq, Eq)]
@@ -226,6 +226,26 @@ impl Subject<'_> {
             ];
             self.fail_judge(run, areas, lines);
         }
+    }
+
+    /// Sees that the library accepts a sound volume, with the counts that the builder knows, and
+    /// compares the verdict.
+    pub fn compare_accepted(
+        &self,
+        run: &mut Run,
+        random: &mut Random,
+        desk: &mut Desk,
+        volume: &Volume,
+    ) {
+        let blocks = u64::from(volume.plan.blocks);
+        let claimed = volume.files.iter().map(|file| u64::from(file.blocks()));
+        let claimed: u64 = claimed.sum();
+        let headers = volume.headers().count() as u64;
+        let (n, h_fmax) = needed(self.image);
+        let areas = Areas::random(random, n, h_fmax);
+        let counts = [blocks, claimed, blocks - claimed, headers];
+        self.expect_counts(run, desk, &areas, counts);
+        self.compare_verdict(run, random, desk);
     }
 
     /// Reports a verdict that is not as it should be.

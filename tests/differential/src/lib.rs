@@ -3,9 +3,12 @@
 //! * [`run`]: numbers and counts the cases of a test, and reports a case that differs;
 //! * [`names`]: the comparisons of the calls on names, and the names and texts that they use;
 //! * [`images`]: the comparisons of the calls on images;
+//! * [`built`]: those of a sound volume, whose builder knows what it put where;
+//! * [`damaged`]: those of a damaged volume;
 //! * [`facts`]: the comparisons of the calls that tell what a volume and its files say;
 //! * [`judging`]: the comparisons of the verdict, with its work areas;
 //! * [`writing`]: the comparisons of create, extend and delete, with the image that they change;
+//! * [`both`]: the same on volumes that are too large to be lent by copy;
 //! * [`lists`]: lists of those calls, and what demand 3 says of an image after one;
 //! * [`asked`]: the IDs, VBNs, names and record places that are asked of a volume.
 //!
@@ -19,6 +22,9 @@
 #![forbid(unsafe_code)]
 
 pub mod asked;
+pub mod both;
+pub mod built;
+pub mod damaged;
 pub mod facts;
 pub mod images;
 pub mod judging;

@@ -9,6 +9,7 @@ use model::{kept, sound, verdict, Id, Number};
 use volumes::block::word;
 use volumes::directory::name_words;
 use volumes::header::at;
+use volumes::long_index::last_slot_of;
 use volumes::writable::unused_numbers;
 use volumes::{Random, Volume};
 
@@ -23,6 +24,10 @@ pub const NAMED: &str = "file named";
 
 /// The kind of what is met where a removed ID was refused, with the number of the refusal.
 pub const REMOVED: &str = "removed ID";
+
+/// The kind of what is met where a file was created: 1 where its slot is past the part of the index file
+/// that header 1 maps, else 0.
+pub const CREATED_FAR: &str = "file created past header 1's part";
 
 /// A list under way: the volume as it was built, the image as the calls have left it, and the IDs
 /// that calls are made with.
@@ -69,6 +74,17 @@ impl<'a> List<'a> {
         list
     }
 
+    /// Makes random calls on a volume, compares them, and sees that what demand 3 says then holds.
+    pub fn compare(run: &mut Run, random: &mut Random, desk: &mut Desk, built: &Volume) {
+        let story = [("volume", built.describe())];
+        let changing = Changing::new(&built.image, &story);
+        let mut list = List::new(random, built, changing);
+        for _ in 0..CALLS {
+            list.step(run, random, desk);
+        }
+        list.expect_demand_3(run, random, desk);
+    }
+
     /// Makes a random call, and compares it.
     pub fn step(&mut self, run: &mut Run, random: &mut Random, desk: &mut Desk) {
         let call = self.random_call(random);
@@ -90,6 +106,8 @@ impl<'a> List<'a> {
                 if self.created.contains(&id) {
                     self.fail(run, &format!("{id:?} is created twice"));
                 }
+                let is_far = u32::from(id.number) > last_slot_of(self.built, 1);
+                run.meet(CREATED_FAR, u64::from(is_far));
                 self.created.push(id);
                 self.there.push(id);
             }
@@ -234,17 +252,16 @@ impl<'a> List<'a> {
     /// same blocks in the same order with the same bytes."
     fn expect_kept(&self, run: &mut Run) {
         let before = &self.built.image;
-        for file in kept::files(before) {
-            let mut ids = self.changing.calls.iter().filter_map(|(call, _)| call.id());
-            if ids.any(|id| file.is_named_by(id)) {
-                run.meet(NAMED, 1);
-                continue;
-            }
-            if !kept::is_kept(before, &self.changing.image, file) {
-                self.fail(run, &format!("{file:?} is not kept"));
-            }
-            run.meet(KEPT, 1);
+        let ids = self.changing.calls.iter().filter_map(|(call, _)| call.id());
+        let ids: Vec<Id> = ids.collect();
+        let mut kept = kept::files(before);
+        let all = kept.len();
+        kept.retain(|file| !ids.iter().any(|&id| file.is_named_by(id)));
+        if let Some(file) = kept::not_kept(before, &self.changing.image, &kept) {
+            self.fail(run, &format!("{file:?} is not kept"));
         }
+        kept.iter().for_each(|_| run.meet(KEPT, 1));
+        (kept.len()..all).for_each(|_| run.meet(NAMED, 1));
     }
 
     /// The sequence word of no slot falls, so that no ID comes again.

@@ -1,81 +1,18 @@
 //! Damaged volumes: each named damage against what the paper says of it, and those and random ones
 //! against the model.
 
-use differential::asked::{ids, some_of_volume};
+use differential::asked::ids;
+use differential::damaged::{compare_damaged, compare_named, damage_together};
 use differential::facts::{expect_all_met, expect_each_met, Depth};
-use differential::images::{Asked, Call, Subject, BAD_LINK, UNMET_TEST};
+use differential::images::{Asked, Subject, BAD_LINK, UNMET_TEST};
 use differential::judging::{Desk, OFFENCE};
 use differential::{Random, Run};
 use library::Lender;
-use model::{Id, Number};
+use model::Id;
 use volumes::accident::{random_changes, random_image, random_length};
-use volumes::damage::{damages, volumes_to_damage, Checksums, Damage, Expected};
+use volumes::damage::{damages, volumes_to_damage, Checksums};
 use volumes::shapes::{random_volume, Size};
 use volumes::volume_v::{volume_v, READS};
-use volumes::Volume;
-
-/// The calls that a damage says the answer of.
-fn calls_of(expected: Expected) -> Vec<Call> {
-    match expected {
-        Expected::Volume(_) => vec![Call::OpenVolume, Call::Geometry, Call::Label],
-        Expected::File(id, Number::Number | Number::Header) => vec![
-            Call::OpenFile(id),
-            Call::Attributes(id),
-            Call::Extent(id, 0),
-            Call::Header(id.number),
-            Call::Pointer(id.number, 0),
-        ],
-        Expected::File(id, _) => vec![Call::OpenFile(id), Call::Attributes(id)],
-    }
-}
-
-/// Compares a damaged volume with the model, and its verdict. Calls are chosen from what was there
-/// before.
-fn compare_damaged(
-    run: &mut Run,
-    random: &mut Random,
-    desk: &mut Desk,
-    sound: &Volume,
-    subject: &Subject,
-) {
-    subject.compare_volume(run);
-    subject.compare_verdict(run, random, desk);
-    for asked in some_of_volume(random, sound, subject.image) {
-        subject.compare_file(run, &asked);
-    }
-    subject.compare_facts(run, random, sound, Depth::SOME);
-}
-
-/// One named damage of a volume, if it applies: what the paper says of it, and the model.
-fn compare_named(
-    run: &mut Run,
-    (lender, desk): (&mut Lender, &mut Desk),
-    (damage, checksums): (&Damage, Checksums),
-    sound: &Volume,
-) {
-    let mut random = run.random();
-    let mut damaged = sound.clone();
-    let Some(expected) = damage.apply(&mut damaged, checksums) else {
-        return;
-    };
-    if !run.next_case() {
-        return;
-    }
-    let story = [
-        ("volume", sound.describe()),
-        ("damage", damage.name.clone()),
-        ("checksums", format!("{checksums:?}")),
-        ("expected", format!("{expected:?}")),
-    ];
-    let subject = Subject {
-        image: lender.lend(&damaged.image),
-        story: &story,
-    };
-    for call in calls_of(expected) {
-        subject.expect(run, call, expected.number());
-    }
-    compare_damaged(run, &mut random, desk, sound, &subject);
-}
 
 /// Every named damage on many volumes, with checksums put right and left.
 #[test]
@@ -101,22 +38,6 @@ fn named_damages() {
         run.expect_met(OFFENCE, 1..=12, 10);
         expect_all_met(run, 100);
     });
-}
-
-/// Damages a volume in some ways one after the other, and tells them.
-fn damage_together(random: &mut Random, damages: &[Damage], volume: &mut Volume) -> String {
-    let count = random.between(2, 4);
-    let mut told = Vec::new();
-    while told.len() < count {
-        let damage = random.pick(damages);
-        let checksums = *random.pick(&[Checksums::PutRight, Checksums::Left]);
-        let mut damaged = volume.clone();
-        if damage.apply(&mut damaged, checksums).is_some() {
-            told.push(format!("{} ({checksums:?})", damage.name));
-            *volume = damaged;
-        }
-    }
-    told.join("; ")
 }
 
 /// Two to four named damages at once: the first refusal is given.

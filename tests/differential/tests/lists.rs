@@ -2,8 +2,7 @@
 //! model, and after each list what demand 3 says.
 
 use differential::judging::Desk;
-use differential::lists::{List, CALLS, KEPT, NAMED, REMOVED};
-use differential::writing::Changing;
+use differential::lists::{List, KEPT, NAMED, REMOVED};
 use differential::{Random, Run};
 use volumes::shapes::Size;
 use volumes::writable::random_volume_to_write;
@@ -30,13 +29,7 @@ fn meet_shape(run: &mut Run, volume: &Volume) {
 fn compare_list(run: &mut Run, random: &mut Random, desk: &mut Desk, size: Size) {
     let built = random_volume_to_write(random, size);
     meet_shape(run, &built);
-    let story = [("volume", built.describe())];
-    let changing = Changing::new(&built.image, &story);
-    let mut list = List::new(random, &built, changing);
-    for _ in 0..CALLS {
-        list.step(run, random, desk);
-    }
-    list.expect_demand_3(run, random, desk);
+    List::compare(run, random, desk, &built);
 }
 
 /// The answers of each call on an image that is accepted. HEADER and CHAIN are not among them: the

@@ -7,10 +7,13 @@ use differential::run::show_answer;
 use differential::writing::{Change, Changing};
 use differential::{Random, Run};
 use model::{verdict, Answer, Id, Number};
-use volumes::accident::{random_changes, random_flaws, random_image, random_length};
+use volumes::accident::{
+    random_changes, random_flaws, random_image, random_index_changes, random_length,
+};
 use volumes::damage::{damages, volumes_to_damage, Checksums, Expected};
 use volumes::directory::name_words;
 use volumes::flaw::{each_flawed, volumes_to_judge, Judged};
+use volumes::long_index::random_long_volume;
 use volumes::shapes::{random_volume, Size};
 use volumes::Volume;
 
@@ -184,5 +187,28 @@ fn random_damages() {
         });
         expect_met(run, &[1, 2, 4, 5, 16, 17, 18, 21], 20);
         run.expect_met("judge", [0], 100);
+    });
+}
+
+/// Random changes of volumes whose index file has several headers.
+#[test]
+fn random_damages_of_long_indexes() {
+    let test = "random_damages_of_long_indexes";
+    Run::of(module_path!(), test, 800, |run| {
+        let mut desk = Desk::default();
+        run.random_cases(800, |run, random| {
+            let sound = random_long_volume(random, Size::Small);
+            let mut changed = sound.clone();
+            let told = match random.below(3) {
+                0 => random_flaws(random, &mut changed),
+                _ => random_index_changes(random, &mut changed),
+            };
+            let story = [("volume", sound.describe()), ("changes", told)];
+            let both = (&sound, &changed.image[..]);
+            compare_calls(run, random, &mut desk, both, &story);
+        });
+        expect_met(run, &[4], 200);
+        expect_met(run, &[16, 17, 18, 19, 21], 10);
+        run.expect_met("judge", [0], 50);
     });
 }

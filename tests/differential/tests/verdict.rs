@@ -1,7 +1,8 @@
 //! The verdict: Volume V, sound volumes of every shape, each flaw against what the paper says of it,
 //! random flaws, and work areas of every length; and all of it against the model.
 
-use differential::facts::{expect_each_met, Depth};
+use differential::damaged::{compare_flawed, expect_flawed_met};
+use differential::facts::Depth;
 use differential::images::Subject;
 use differential::judging::{needed, offences, Areas, Desk, OFFENCE};
 use differential::{Random, Run};
@@ -9,7 +10,7 @@ use library::Lender;
 use model::Number;
 use volumes::accident::random_flaws;
 use volumes::block::{seal_header, seal_home};
-use volumes::flaw::{each_flawed, flaws, volumes_to_judge, Flawed, Judged};
+use volumes::flaw::{each_flawed, flaws, volumes_to_judge, Judged};
 use volumes::header::Pointer;
 use volumes::shapes::{random_volume, Size};
 use volumes::volume_v::volume_v;
@@ -57,15 +58,7 @@ fn sound_volumes(test: &'static str, usual: u64, size: Size) {
                 image: lender.lend(&volume.image),
                 story: &[("volume", volume.describe())],
             };
-            let blocks = u64::from(volume.plan.blocks);
-            let claimed = volume.files.iter().map(|file| u64::from(file.blocks()));
-            let claimed: u64 = claimed.sum();
-            let headers = volume.headers().count() as u64;
-            let (n, h_fmax) = needed(subject.image);
-            let areas = Areas::random(random, n, h_fmax);
-            let counts = [blocks, claimed, blocks - claimed, headers];
-            subject.expect_counts(run, &mut desk, &areas, counts);
-            subject.compare_verdict(run, random, &mut desk);
+            subject.compare_accepted(run, random, &mut desk, &volume);
         });
         run.expect_met("judge", [0], usual);
     });
@@ -87,37 +80,6 @@ fn medium_volumes_are_accepted() {
 #[test]
 fn rl02_volumes_are_accepted() {
     sound_volumes("rl02_volumes_are_accepted", 4, Size::Rl02);
-}
-
-/// A volume with a flaw: what the paper says of it, and the model.
-fn compare_flawed(run: &mut Run, (lender, desk): (&mut Lender, &mut Desk), flawed: &Flawed) {
-    let mut random = run.random();
-    if !run.next_case() {
-        return;
-    }
-    let expected = flawed.judged;
-    let story = [
-        ("volume", flawed.sound.describe()),
-        ("flaw", flawed.flaw.name.clone()),
-        ("expected", format!("{expected:?}")),
-    ];
-    let subject = Subject {
-        image: lender.lend(&flawed.changed.image),
-        story: &story,
-    };
-    subject.expect_judged(run, &mut random, desk, expected);
-    subject.compare_verdict(run, &mut random, desk);
-    subject.compare_facts(run, &mut random, flawed.sound, Depth::SOME);
-}
-
-/// A volume with a flaw mostly opens, and tells what it says: each answer, often enough.
-fn expect_flawed_met(run: &mut Run, least: u64) {
-    expect_each_met(run, &[0], least);
-    run.expect_met("header", [7, 8], least);
-    run.expect_met("pointer", [7, 8, 15], least);
-    run.expect_met("attributes", 6..=12, least);
-    run.expect_met("extent", 6..=13, least);
-    run.expect_met("free_run", [15], least);
 }
 
 /// Every flaw on many volumes.

@@ -47,8 +47,7 @@ pub fn files(bytes: &[u8]) -> Vec<File> {
 /// The blocks of a file that is in use, in order: LBN and bytes. Paper 01, "Demand 3, its words and
 /// its list": "A file's blocks are the LBNs of its VBNs, from 1 to the last". Paper 01, "The header":
 /// "VBNs run through its pointers in order." A flag that refuses access changes no block.
-pub fn blocks(bytes: &[u8], file: File) -> Option<Vec<(Lbn, &[u8])>> {
-    let volume = volume::open(bytes).ok()?;
+pub fn blocks<'a>(volume: &Volume<'a>, file: File) -> Option<Vec<(Lbn, &'a [u8])>> {
     let first = volume.slot(file.number)?;
     let is_it = volume.in_use(file.number) && first.h_fseq() == file.sequence;
     if !is_it || first.segment() != 0 || !first.is_whole(file.number, volume.image().blocks()) {
@@ -64,8 +63,19 @@ pub fn blocks(bytes: &[u8], file: File) -> Option<Vec<(Lbn, &[u8])>> {
 /// same order with the same bytes." Paper 01, "Demand 3, its words and its list": "they and their
 /// bytes are the same before the list and after it."
 pub fn is_kept(before: &[u8], after: &[u8], file: File) -> bool {
-    let was = blocks(before, file);
-    was.is_some() && blocks(after, file) == was
+    not_kept(before, after, &[file]).is_none()
+}
+
+/// The first of some files that is not kept.
+pub fn not_kept(before: &[u8], after: &[u8], files: &[File]) -> Option<File> {
+    let before = volume::open(before).expect("an accepted image opens");
+    let after = volume::open(after);
+    let is_kept = |file: &File| {
+        let was = blocks(&before, *file);
+        let is = after.as_ref().ok().and_then(|after| blocks(after, *file));
+        was.is_some() && is == was
+    };
+    files.iter().find(|file| !is_kept(file)).copied()
 }
 
 /// The word at byte 4 of each slot of a number up to H.FMAX, number 1 first. Paper 01, "The verdict":

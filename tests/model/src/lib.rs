@@ -1,8 +1,10 @@
-//! A second implementation of the rules of paper 01, to compare the library with.
+//! A second implementation of the rules of paper 01, and of what paper 02 changes of them, to compare
+//! the library with.
 //!
-//! It is written from the paper alone, plain and slow: it shares no code, no table and no way of
+//! It is written from the papers alone, plain and slow: it shares no code, no table and no way of
 //! working with the library. Each function cites the sentence of the paper that it implements, or of
-//! paper 000, the specification, where paper 01 only names a field.
+//! paper 000, the specification, where paper 01 only names a field. Of paper 02 it has request 9/14,
+//! index files with several headers.
 //!
 //! One module for each part of the paper:
 //!
@@ -41,6 +43,8 @@ pub mod verdict;
 pub mod volume;
 pub mod writing;
 
+#[cfg(test)]
+mod long_index;
 #[cfg(test)]
 mod sample;
 

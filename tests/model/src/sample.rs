@@ -38,6 +38,11 @@ fn put_sum(block: &mut [u8], at: usize) {
     block[at..at + 2].copy_from_slice(&sum.to_le_bytes());
 }
 
+/// Puts the checksum of a header right, by its LBN.
+pub fn seal(image: &mut [u8], lbn: usize) {
+    put_sum(&mut image[512 * lbn..], 510);
+}
+
 /// Volume V with bytes changed: LBN, byte in the block, bytes. The checksums of the blocks up to
 /// header 6 are put right, but for that of the index map, which has none.
 pub fn changed(changes: &[(usize, usize, &[u8])]) -> Vec<u8> {
@@ -49,7 +54,7 @@ pub fn changed(changes: &[(usize, usize, &[u8])]) -> Vec<u8> {
     put_sum(&mut image[512 * HOME..], 58);
     put_sum(&mut image[512 * HOME..], 510);
     for number in 1..=6 {
-        put_sum(&mut image[512 * slot(number)..], 510);
+        seal(&mut image, slot(number));
     }
     image
 }

@@ -18,7 +18,7 @@ const FIRST_HEADERS: u64 = 16;
 pub struct Volume<'a> {
     image: Image<'a>,
     home: Home,
-    /// The pointers of header 1.
+    /// The pointers of all headers in the chain of file 1, in order.
     index: Vec<Pointer>,
 }
 
@@ -79,28 +79,56 @@ fn geometry_is_right(image: Image, home: Home) -> bool {
 }
 
 /// What headers 1 and 2 have in common. Paper 01, "The volume": "It must be whole, ID 1,1, segment
-/// 0, without extension (*house*)." and "Header 2, whole, ID 2,2, segment 0, no extension".
+/// 0" and "Header 2, whole, ID 2,2, segment 0".
 fn is_known_header(image: Image, header: Header, n: u64) -> bool {
-    header.is_whole(FileNumber(n), image.blocks())
-        && header.h_fseq() == n
-        && header.segment() == 0
-        && header.ends_chain()
+    header.is_whole(FileNumber(n), image.blocks()) && header.h_fseq() == n && header.segment() == 0
 }
 
-/// The pointers of the index file, if they are right. Paper 01, "The volume": "Index file. Header 1
-/// lies at LBN H.IBLB + m. It must be whole, ID 1,1, segment 0, without extension (*house*). Its
-/// VBN 1 maps to LBN 0, VBN 2 to the home, VBN 3 to m+18 to H.IBLB onward."
-fn index_pointers(image: Image, home: Home) -> Option<Vec<Pointer>> {
+/// Whether header 1 alone maps what it must. Paper 01, "The volume": "Its VBN 1 maps to LBN 0, VBN 2
+/// to the home, VBN 3 to m+18 to H.IBLB onward." Paper 02, 9/14: "The first segment must still map
+/// VBN 1 to m+18."
+fn maps_first_blocks(pointers: &[Pointer], home: Home) -> bool {
     let m = home.h_ibsz;
-    let header = Header::of(image.block(Lbn(home.h_iblb + m)));
-    if !is_known_header(image, header, 1) {
-        return None;
-    }
-    let pointers = header.pointers();
     let from_h_iblb = (3..=m + 18).map(|vbn| (vbn, home.h_iblb + (vbn - 3)));
     let mut expected = [(1, 0), (2, home.lbn.0)].into_iter().chain(from_h_iblb);
-    let is_right = expected.all(|(vbn, lbn)| lbn_of(&pointers, Vbn(vbn)) == Some(Lbn(lbn)));
-    is_right.then_some(pointers)
+    expected.all(|(vbn, lbn)| lbn_of(pointers, Vbn(vbn)) == Some(Lbn(lbn)))
+}
+
+/// What is wrong with an index file. No answer tells it; the tests count what they meet.
+#[derive(Clone, Copy, Debug, PartialEq, Eq)]
+pub enum BadIndex {
+    /// "It must be whole, ID 1,1, segment 0".
+    Header1,
+    /// "The first segment must still map VBN 1 to m+18."
+    FirstBlocks,
+    /// "a bad link or a slot not yet mapped".
+    Link(BadLink),
+}
+
+/// A volume with its index file, if that is right. Paper 01, "The volume": "Index file. Header 1 lies
+/// at LBN H.IBLB + m. It must be whole, ID 1,1, segment 0". Paper 02, 9/14: "The header of each further
+/// segment must have its slot in the part that earlier segments map.", and "INDEX also for a bad link or
+/// a slot not yet mapped; no longer for an extension as such." So each link is asked of a volume whose
+/// index file is the part that the segments before it map.
+fn with_index(image: Image, home: Home) -> Result<Volume, BadIndex> {
+    let header_1 = Header::of(image.block(Lbn(home.h_iblb + home.h_ibsz)));
+    if !is_known_header(image, header_1, 1) {
+        return Err(BadIndex::Header1);
+    }
+    if !maps_first_blocks(&header_1.pointers(), home) {
+        return Err(BadIndex::FirstBlocks);
+    }
+    let mut part = Volume {
+        image,
+        home,
+        index: header_1.pointers(),
+    };
+    let mut last = header_1;
+    while let Some(next) = part.next_header(last).map_err(BadIndex::Link)? {
+        part.index.extend(next.pointers());
+        last = next;
+    }
+    Ok(part)
 }
 
 /// Paper 01, "The volume": "maps exactly 1+q blocks, q = N/4096 rounded up, by one pointer, or by
@@ -120,7 +148,7 @@ fn storage_is_right(volume: &Volume) -> bool {
     let q = volume.image.blocks().div_ceil(MAP_BITS);
     let header = volume.slot(FileNumber(2));
     let header = header.expect("the index file maps the first 16 slots");
-    if !is_known_header(volume.image, header, 2) {
+    if !is_known_header(volume.image, header, 2) || !header.ends_chain() {
         return false;
     }
     let pointers = header.pointers();
@@ -142,12 +170,22 @@ pub fn open(bytes: &[u8]) -> Opened<'_> {
     if !geometry_is_right(image, home) {
         return Err(Number::Geometry);
     }
-    let index = index_pointers(image, home).ok_or(Number::Index)?;
-    let volume = Volume { image, home, index };
+    let volume = with_index(image, home).map_err(|_| Number::Index)?;
     if !storage_is_right(&volume) {
         return Err(Number::Storage);
     }
     Ok(volume)
+}
+
+/// What opening meets where it answers INDEX. Paper 01, "Answer numbers": "4 INDEX .. opening, in this
+/// order".
+pub fn bad_index(bytes: &[u8]) -> Option<BadIndex> {
+    let image = Image::of(bytes)?;
+    let home = find_home(image)?;
+    if !geometry_is_right(image, home) {
+        return None;
+    }
+    with_index(image, home).err()
 }
 
 /// The answer of open volume. Paper 01, "Answer numbers": "DONE has place 0 and as value the home LBN
@@ -209,7 +247,7 @@ impl<'a> Volume<'a> {
     }
 
     /// How many numbers have a slot. Paper 01, "The volume": "The slot of file n is VBN 2+m+n; past
-    /// the mapped blocks n has no slot."
+    /// the mapped blocks n has no slot." Paper 02, 9/14: "Slots .. read the long map."
     pub fn slots(&self) -> u64 {
         let m = self.home.h_ibsz;
         blocks_of(&self.index) - (2 + m)
@@ -240,7 +278,7 @@ impl<'a> Volume<'a> {
     }
 
     /// The LBN of a number's slot, if it has one. Paper 01, "The volume": "The slot of file n is VBN
-    /// 2+m+n; past the mapped blocks n has no slot."
+    /// 2+m+n; past the mapped blocks n has no slot." Paper 02, 9/14: "Slots .. read the long map."
     pub fn slot_lbn(&self, n: FileNumber) -> Option<Lbn> {
         let m = self.home.h_ibsz;
         lbn_of(&self.index, Vbn(2 + m + n.0))

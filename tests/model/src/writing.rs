@@ -598,7 +598,8 @@ mod tests {
         assert_eq!(kept::files(&before), [six]);
         assert!(six.is_named_by(Id::from_words([6, 9, 5])));
         assert!(!six.is_named_by(id(6, 8)) && !six.is_named_by(id(9, 6)));
-        let lbns: Vec<u64> = kept::blocks(&before, six)
+        let volume = volume::open(&before).expect("it opens");
+        let lbns: Vec<u64> = kept::blocks(&volume, six)
             .expect("it is in use")
             .iter()
             .map(|(lbn, _)| lbn.0)

@@ -1,9 +1,13 @@
 //! Accidents: random changes of a volume, mostly where the rules look, and images of any bytes.
 
+mod index;
+
 use crate::block::{put_long, put_word, seal_header, seal_home, BLOCK_BYTES};
 use crate::header::{at, in_map, Areas, Pointer, MOST_POINTERS};
 use crate::random::Random;
 use crate::volume::{in_home, Volume, FORMAT, MAP_BITS, RECORD_BYTES};
+
+pub use index::random_index_changes;
 
 /// Makes one to four changes of a volume at random, and answers them in words.
 pub fn random_changes(random: &mut Random, volume: &mut Volume) -> String {
@@ -66,8 +70,8 @@ fn link(random: &mut Random, volume: &mut Volume) -> String {
         3 => (volume.unused_number().unwrap_or(other), sequence),
         _ => (other, sequence),
     };
-    // Header 1 and 2 have no link on a volume that opens.
-    if number < 3 {
+    // Header 2 has no link on a volume that opens.
+    if number == 2 {
         return format!("header {number} stays");
     }
     volume.edit_header(number, |header| header.link = link);
@@ -208,6 +212,11 @@ const MAP_FIELDS: [(&str, usize); 10] = [
 /// Changes a byte of a header's field.
 fn header_field(random: &mut Random, volume: &mut Volume) -> String {
     let number = random_header(random, volume);
+    field_of(random, volume, number)
+}
+
+/// Changes a byte of a field of the header of a number.
+fn field_of(random: &mut Random, volume: &mut Volume, number: u16) -> String {
     let lbn = volume.slot_of(number);
     let block = volume.block_mut(lbn);
     let map = 2 * usize::from(block[at::H_MPOF]);
@@ -226,6 +235,11 @@ fn header_field(random: &mut Random, volume: &mut Volume) -> String {
 /// Changes one of a header's pointers: where it starts, or its count.
 fn pointer(random: &mut Random, volume: &mut Volume) -> String {
     let number = random_header(random, volume);
+    pointer_of(random, volume, number)
+}
+
+/// Changes one of the pointers of the header of a number.
+fn pointer_of(random: &mut Random, volume: &mut Volume, number: u16) -> String {
     let lbn = volume.slot_of(number);
     let blocks = volume.plan.blocks;
     let block = volume.block_mut(lbn);

@@ -5,9 +5,14 @@ mod chain;
 pub(crate) mod header;
 mod home;
 mod known;
+mod long_index;
 mod number;
 
 use crate::block::{is_sealed_header, is_sealed_home, seal_header, seal_home};
+use crate::flaw::tried_one_in;
+use crate::hub::{hub, Hub};
+use crate::long_index::{fragmented_volume, long_volume, random_long_volume, MOST_HEADERS};
+use crate::random::Random;
 use crate::shapes::{Maker, Size};
 use crate::volume::Volume;
 use model::{Id, Number};
@@ -146,7 +151,7 @@ fn sealed_blocks(volume: &Volume) -> Vec<Sealed> {
     }];
     for file in &volume.files {
         for header in &file.headers {
-            let expected = match (header.number, header.segment) {
+            let expected = match (file.number(), header.segment) {
                 (1, _) => Expected::Volume(Number::Index),
                 (2, _) => Expected::Volume(Number::Storage),
                 (_, 0) => Expected::File(file.id(), Number::Header),
@@ -164,6 +169,13 @@ fn sealed_blocks(volume: &Volume) -> Vec<Sealed> {
     blocks
 }
 
+/// That the index file has one header, where a damage tells nothing of one that has several: there it
+/// may or may not be one of a further header.
+fn one_index_header(volume: &Volume) -> Option<()> {
+    let headers = &volume.file(1).headers;
+    (headers.len() == 1).then_some(())
+}
+
 /// Every damage.
 pub fn damages() -> Vec<Damage> {
     let mut all = Vec::new();
@@ -173,6 +185,12 @@ pub fn damages() -> Vec<Damage> {
     all.extend(number::damages());
     all.extend(chain::damages());
     all
+}
+
+/// Every damage of an index file that has several headers, and of what stands on it. They apply to no
+/// volume whose index file has one.
+pub fn long_index_damages() -> Vec<Damage> {
+    long_index::damages()
 }
 
 /// Volumes to damage, of every kind that some damage needs: small ones, one whose chained file has
@@ -187,6 +205,34 @@ pub fn volumes_to_damage(seed: u64, small: u64) -> Vec<Volume> {
     volumes.push(maker.find(Size::Blocks(4_097), |volume| {
         volume.plan.home > 1 && volume.plan.h_fmax > 4_096
     }));
+    volumes
+}
+
+/// Volumes to damage whose index file has several headers, of every kind that some damage needs: small
+/// ones, some whose index file has 256 headers and that have numbers not in use, some whose maps have
+/// more than one block, one whose index headers are full, and a hub. Those that take long come last.
+pub fn long_volumes_to_damage(seed: u64, small: u64) -> Vec<Volume> {
+    let random = |number| Random::of_case(seed, "long_volumes_to_damage", number);
+    let mut volumes: Vec<Volume> = (0..small)
+        .map(|number| random_long_volume(&mut random(number), Size::Small))
+        .collect();
+    let find = |make: &dyn Fn(&mut Random) -> Volume, test: &dyn Fn(&Volume) -> bool| {
+        let mut all = (1_000_000..).map(|number| make(&mut random(number)));
+        all.find(|volume| test(volume)).expect("another one")
+    };
+    let has_unused = |volume: &Volume| volume.unused_number().is_some();
+    let most = |random: &mut Random| long_volume(random, 1_300, (300, MOST_HEADERS));
+    volumes.push(find(&most, &has_unused));
+    volumes.push(find(&most, &|volume| {
+        has_unused(volume) && volume.plan.index_map_blocks() > 1
+    }));
+    volumes.push(find(
+        &|random| long_volume(random, 4_097, (900, 40)),
+        &|volume| volume.plan.home > 1 && volume.plan.h_fmax > 4_096,
+    ));
+    volumes.push(fragmented_volume(&mut random(2_000_000), 900));
+    volumes.push(hub(&Hub::SMALL));
+    volumes.sort_by_key(tried_one_in);
     volumes
 }
 
@@ -205,12 +251,13 @@ mod tests {
 
     #[test]
     fn names_are_told_apart() {
-        let mut names: Vec<String> = damages().into_iter().map(|damage| damage.name).collect();
+        let damages = damages().into_iter().chain(long_index_damages());
+        let mut names: Vec<String> = damages.map(|damage| damage.name).collect();
         let all = names.len();
         names.sort_unstable();
         names.dedup();
         assert_eq!(names.len(), all);
-        assert!(all > 300, "{all} damages");
+        assert!(all > 400, "{all} damages");
     }
 
     /// How often a damage applies to volumes; each time it is answered as it says.
@@ -233,14 +280,30 @@ mod tests {
         applied
     }
 
-    #[test]
-    fn every_damage_is_answered_as_the_paper_says() {
-        let volumes = volumes_to_damage(6, 20);
-        for damage in damages() {
-            let left = applied(&damage, &volumes, Checksums::Left);
-            let put_right = applied(&damage, &volumes, Checksums::PutRight);
+    /// Sees that each damage applies to some of the volumes, and is answered as it says.
+    fn expect_applied(damages: Vec<Damage>, volumes: &[Volume]) {
+        for damage in damages {
+            let left = applied(&damage, volumes, Checksums::Left);
+            let put_right = applied(&damage, volumes, Checksums::PutRight);
             assert!(left > 0, "{} does not apply", damage.name);
             assert_eq!(put_right, if damage.of_checksum { 0 } else { left });
         }
+    }
+
+    #[test]
+    fn every_damage_is_answered_as_the_paper_says() {
+        expect_applied(damages(), &volumes_to_damage(6, 20));
+    }
+
+    #[test]
+    fn every_damage_of_a_long_index_is_answered_as_the_paper_says() {
+        let volumes = long_volumes_to_damage(6, 20);
+        expect_applied(long_index_damages(), &volumes);
+        let all = damages();
+        let apply = all.iter().filter(|damage| {
+            let times = applied(damage, &volumes[..10], Checksums::Left);
+            times + applied(damage, &volumes[10..], Checksums::PutRight) > 0
+        });
+        assert!(apply.count() + 10 > all.len());
     }
 }

@@ -5,12 +5,16 @@
 mod badhome;
 mod files;
 mod links;
+mod long_index;
 mod map;
 mod order;
 mod twice;
 
 use crate::block::seal_header;
+use crate::damage::long_volumes_to_damage;
 use crate::header::{at, Areas, Header, Pointer, MOST_POINTERS};
+use crate::long_index::long_volume;
+use crate::random::Random;
 use crate::shapes::{Maker, Size};
 use crate::volume::{File, Volume};
 use model::Number;
@@ -86,6 +90,14 @@ pub fn flaws() -> Vec<Flaw> {
     all
 }
 
+/// Every flaw of a volume whose index file has several headers: those of any, and those of the index
+/// file.
+pub fn long_index_flaws() -> Vec<Flaw> {
+    let mut all = flaws();
+    all.extend(long_index::flaws());
+    all
+}
+
 /// A volume with a flaw: the flaw, the sound volume, the changed one, and what the verdict then is.
 pub struct Flawed<'a> {
     pub flaw: &'a Flaw,
@@ -94,18 +106,37 @@ pub struct Flawed<'a> {
     pub judged: Judged,
 }
 
-/// From so many blocks on a volume takes long to change and to judge.
+/// From so many blocks, or headers of its index file, on a volume takes long to change and to judge.
 const LARGE: u32 = 2_000;
+const LONG: usize = 60;
 
-/// Gives each flaw on each volume that it applies to; on large volumes a quarter of those that small
-/// ones have shown often enough. Answers the flaws that apply to none.
-pub fn each_flawed(volumes: &[Volume], mut each: impl FnMut(Flawed)) -> Vec<String> {
+/// One in how many things is tried on a volume that others have shown often enough: all of them, unless
+/// it takes long to change and to judge.
+pub fn tried_one_in(volume: &Volume) -> usize {
+    match volume.file(1).headers.len() {
+        headers if headers > LONG => 16,
+        _ if volume.plan.blocks > LARGE => 4,
+        _ => 1,
+    }
+}
+
+/// Gives each flaw on each volume that it applies to. Answers the flaws that apply to none.
+pub fn each_flawed(volumes: &[Volume], each: impl FnMut(Flawed)) -> Vec<String> {
+    each_flawed_by(&flaws(), volumes, each)
+}
+
+/// Gives each of some flaws on each volume that it applies to; where it takes long, some of those that
+/// other volumes have shown often enough. Answers the flaws that apply to none.
+pub fn each_flawed_by(
+    flaws: &[Flaw],
+    volumes: &[Volume],
+    mut each: impl FnMut(Flawed),
+) -> Vec<String> {
     let mut none = Vec::new();
-    for (number, flaw) in flaws().iter().enumerate() {
+    for (number, flaw) in flaws.iter().enumerate() {
         let mut applied = 0;
         for (place, sound) in volumes.iter().enumerate() {
-            let is_shown = applied >= 6 && (number + place) % 4 != 0;
-            if sound.plan.blocks > LARGE && is_shown {
+            if applied >= 6 && (number + place) % tried_one_in(sound) != 0 {
                 continue;
             }
             let mut changed = sound.clone();
@@ -152,6 +183,12 @@ fn add_pointer(volume: &mut Volume, number: u16, lbn: u32, blocks: u32) -> Optio
         }
     });
     Some(())
+}
+
+/// The number of the last header of the index file: what it maps more moves no block of the index file.
+fn last_index_header(volume: &Volume) -> u16 {
+    let last = volume.file(1).headers.last();
+    last.expect("a file has a header").number
 }
 
 /// Puts a header without pointers into the slot of an unused number, and the number in use.
@@ -206,6 +243,27 @@ pub fn volumes_to_judge(seed: u64, small: u64) -> Vec<Volume> {
     volumes
 }
 
+/// Volumes to judge whose index file has several headers, of every kind that some flaw needs: those to
+/// damage, some with homes passed over, and one whose chained file has 256 headers. Those that take long
+/// come last.
+pub fn long_volumes_to_judge(seed: u64, small: u64) -> Vec<Volume> {
+    let mut volumes = long_volumes_to_damage(seed, small);
+    let random = |number| Random::of_case(seed, "long_volumes_to_judge", number);
+    let find = |blocks, shape, test: &dyn Fn(&Volume) -> bool| {
+        let mut all = (0..).map(|number| long_volume(&mut random(number), blocks, shape));
+        let found = all.find(|volume| test(volume));
+        found.expect("there is always another one")
+    };
+    volumes.push(find(1_405, (60, 3), &|volume| volume.plan.home == 1_024));
+    volumes.push(find(1_405, (60, 30), &|volume| volume.plan.home == 768));
+    volumes.push(find(1_900, (475, 20), &|volume| {
+        let chained = volume.file(volume.roles.chained);
+        chained.headers.len() == 256 && volume.unused_number().is_some()
+    }));
+    volumes.sort_by_key(tried_one_in);
+    volumes
+}
+
 #[cfg(test)]
 mod tests {
     use super::*;
@@ -215,7 +273,8 @@ mod tests {
 
     #[test]
     fn names_are_told_apart() {
-        let mut names: Vec<String> = flaws().into_iter().map(|flaw| flaw.name).collect();
+        let all = long_index_flaws().into_iter();
+        let mut names: Vec<String> = all.map(|flaw| flaw.name).collect();
         let all = names.len();
         names.sort_unstable();
         names.dedup();
@@ -234,13 +293,13 @@ mod tests {
         }
     }
 
-    #[test]
-    fn every_flaw_is_judged_as_the_paper_says() {
-        let volumes = volumes_to_judge(5, 16);
+    /// Sees that each flaw applies to some of the volumes and is judged as it says, and that each rule
+    /// is met often enough.
+    fn expect_judged(flaws: &[Flaw], volumes: &[Volume]) {
         let mut blocks = vec![0; 13_000];
         let mut headers = vec![0; 65_535];
         let mut met = BTreeMap::new();
-        let none = each_flawed(&volumes, |flawed| {
+        let none = each_flawed_by(flaws, volumes, |flawed| {
             let image = &flawed.changed.image;
             let (name, built) = (&flawed.flaw.name, flawed.sound.describe());
             assert!(volume::open(image).is_ok(), "{name}, {built}");
@@ -257,5 +316,15 @@ mod tests {
             let times = met.get(&number).copied().unwrap_or(0);
             assert!(times >= 60, "number {number} {times} times");
         }
+    }
+
+    #[test]
+    fn every_flaw_is_judged_as_the_paper_says() {
+        expect_judged(&flaws(), &volumes_to_judge(5, 16));
+    }
+
+    #[test]
+    fn every_flaw_on_a_long_index_is_judged_as_the_paper_says() {
+        expect_judged(&long_index_flaws(), &long_volumes_to_judge(5, 8));
     }
 }

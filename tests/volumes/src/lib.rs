@@ -14,6 +14,8 @@
 //! * [`shapes`]: sound volumes of every shape, at random;
 //! * [`station`]: a disk as a metering station has it, directories and files with their names;
 //! * [`large`]: sound volumes of many blocks;
+//! * [`long_index`]: sound volumes whose index file has several headers, at random;
+//! * [`hub`]: a disk as a hub station has it, with an index file of several headers;
 //! * [`writable`]: sound volumes with little room, for the calls that change one;
 //! * [`damage`]: each way that a rule of opening can be broken, with what is then answered;
 //! * [`flaw`]: each way that a rule of the verdict can be broken, with its place;
@@ -28,7 +30,9 @@ pub mod directory;
 pub mod facts;
 pub mod flaw;
 pub mod header;
+pub mod hub;
 pub mod large;
+pub mod long_index;
 pub mod random;
 pub mod shapes;
 pub mod space;

@@ -30,7 +30,7 @@ pub const RL02_BLOCKS: u32 = 20_480;
 pub const MOST_BLOCKS: u32 = 1_044_480;
 
 /// A random N.
-fn random_blocks(random: &mut Random, size: Size) -> u32 {
+pub(crate) fn random_blocks(random: &mut Random, size: Size) -> u32 {
     match size {
         Size::Small => match random.below(4) {
             0 => *random.pick(&[100, 101, 128, 255, 256, 257, 258, 400]),
@@ -66,7 +66,7 @@ pub fn home_positions(blocks: u32) -> Vec<u32> {
 }
 
 /// A random home position: the first as often as another.
-fn random_home(random: &mut Random, blocks: u32) -> u32 {
+pub(crate) fn random_home(random: &mut Random, blocks: u32) -> u32 {
     let positions = home_positions(blocks);
     match random.below(4) {
         0 | 1 => positions[0],
@@ -95,6 +95,24 @@ fn random_plan(random: &mut Random, size: Size) -> (Plan, Space) {
     let blocks = random_blocks(random, size);
     let home = random_home(random, blocks);
     let h_fmax = random_h_fmax(random, blocks);
+    let (mut plan, mut space) = plan_of_16_slots(random, (blocks, home), h_fmax);
+    let count = random_more_slots(random, h_fmax, &space);
+    // The runs are long enough for one header to map them all.
+    let longest = 8 + count / 40;
+    plan.more_slots = space.take_blocks(random, count, longest);
+    while pointers_of(&plan.index_lbns()).len() > MOST_POINTERS {
+        plan.more_slots.pop();
+    }
+    (plan, space)
+}
+
+/// A random plan whose index file has 16 slots, with N, the home and H.FMAX given, and the space that
+/// it leaves.
+pub(crate) fn plan_of_16_slots(
+    random: &mut Random,
+    (blocks, home): (u32, u32),
+    h_fmax: u16,
+) -> (Plan, Space) {
     let mut space = Space::new(blocks);
     space.take(0);
     for position in passed_over(blocks, home) {
@@ -126,13 +144,6 @@ fn random_plan(random: &mut Random, size: Size) -> (Plan, Space) {
         plan.storage_map = run(&mut space, random, q);
         plan.control = run(&mut space, random, 1);
     }
-    let count = random_more_slots(random, h_fmax, &space);
-    // The runs are long enough for one header to map them all.
-    let longest = 8 + count / 40;
-    plan.more_slots = space.take_blocks(random, count, longest);
-    while pointers_of(&plan.index_lbns()).len() > MOST_POINTERS {
-        plan.more_slots.pop();
-    }
     (plan, space)
 }
 
@@ -150,7 +161,7 @@ fn run(space: &mut Space, random: &mut Random, count: u32) -> u32 {
 }
 
 /// Cuts some pointers further, but to no more than a header holds.
-fn cut_some(random: &mut Random, pointers: &mut Vec<Pointer>) {
+pub(crate) fn cut_some(random: &mut Random, pointers: &mut Vec<Pointer>) {
     if random.once_in(2) {
         let most = random.between(pointers.len(), MOST_POINTERS);
         let count = most.min(pointers.len() + random.between(0, 6));
@@ -166,11 +177,13 @@ fn known_header(random: &mut Random, number: u16, pointers: Vec<Pointer>) -> Hea
     }
 }
 
-/// The header of file 1.
-fn index_header(random: &mut Random, plan: &Plan) -> Header {
+/// File 1, of one header.
+fn index_file(random: &mut Random, plan: &Plan) -> File {
     let mut pointers = pointers_of(&plan.index_lbns());
     cut_some(random, &mut pointers);
-    known_header(random, 1, pointers)
+    File {
+        headers: vec![known_header(random, 1, pointers)],
+    }
 }
 
 /// The header of file 2: one pointer, or two of which the first maps one block.
@@ -222,6 +235,10 @@ struct Wanted {
 fn free_numbers(random: &mut Random, volume: &Volume) -> Vec<u16> {
     let last = volume.last_slot().min(u32::from(volume.plan.h_fmax)) as u16;
     let mut numbers: Vec<u16> = (6..=last).collect();
+    for header in volume.headers() {
+        numbers.retain(|&number| number != header.number);
+    }
+    let last = *numbers.last().expect("eleven numbers");
     for place in (1..numbers.len()).rev() {
         numbers.swap(place, random.between(0, place));
     }
@@ -234,7 +251,7 @@ fn free_numbers(random: &mut Random, volume: &Volume) -> Vec<u16> {
 }
 
 /// A random sequence: mostly small, sometimes 0 or the last.
-fn random_sequence(random: &mut Random) -> u16 {
+pub(crate) fn random_sequence(random: &mut Random) -> u16 {
     match random.below(8) {
         0 => *random.pick(&[0, 1, 255, 256, 32_768, 65_534, 65_535]),
         1 => random.word(),
@@ -321,22 +338,29 @@ fn share_out(random: &mut Random, pointers: Vec<Pointer>, count: usize) -> Vec<V
 
 /// A random sound volume, with a file for each role.
 pub fn random_volume(random: &mut Random, size: Size) -> Volume {
-    let (plan, mut space) = random_plan(random, size);
+    let (plan, space) = random_plan(random, size);
+    volume_of(random, plan, space, index_file)
+}
+
+/// A random sound volume of a plan, with its index file and the space that is left.
+pub(crate) fn volume_of(
+    random: &mut Random,
+    plan: Plan,
+    mut space: Space,
+    index_file: impl FnOnce(&mut Random, &Plan) -> File,
+) -> Volume {
     let noisy = random.once_in(2);
     let mut image = vec![0; plan.blocks as usize * BLOCK_BYTES];
     if noisy {
         random.fill(&mut image);
     }
     let mut volume = Volume::new(plan, image);
-    let headers = [
-        index_header(random, &volume.plan),
-        storage_header(random, &volume.plan),
-    ];
-    for header in headers {
-        volume.add(File {
-            headers: vec![header],
-        });
-    }
+    let index = index_file(random, &volume.plan);
+    let storage = storage_header(random, &volume.plan);
+    volume.add(index);
+    volume.add(File {
+        headers: vec![storage],
+    });
     let mut numbers = free_numbers(random, &volume);
     volume.add(bad_block_file(
         random,
@@ -479,7 +503,7 @@ impl Maker {
 }
 
 #[cfg(test)]
-mod tests {
+pub(crate) mod tests {
     use super::*;
     use crate::volume::MAP_BITS;
     use model::{attributes, file, sound, verdict, volume};
@@ -506,7 +530,7 @@ mod tests {
     }
 
     /// Sees that a volume opens, and each of its files, with the blocks that were given to it.
-    fn expect_as_built(volume: &Volume) {
+    pub fn expect_as_built(volume: &Volume) {
         let image = &volume.image;
         let answer = volume::open_volume(image);
         let home = u64::from(volume.plan.home);
@@ -580,7 +604,7 @@ mod tests {
     }
 
     /// Sees that among volumes each kind is met.
-    fn expect_some(volumes: &[Volume], kind: &str, test: impl Fn(&Volume) -> bool) {
+    pub fn expect_some(volumes: &[Volume], kind: &str, test: impl Fn(&Volume) -> bool) {
         assert!(volumes.iter().any(test), "no volume with {kind}");
     }
 

@@ -141,6 +141,15 @@ pub struct Placed {
     pub record: Record,
 }
 
+impl Placed {
+    /// Puts the record into the block that has its place.
+    pub fn put(&self, block: &mut [u8]) {
+        let start = (self.place % BLOCK_RECORDS) as usize * RECORD_BYTES;
+        put_words(block, start, &self.record.id);
+        put_words(block, start + 6, &self.record.name);
+    }
+}
+
 /// The numbers of the files that every random volume has, for damages to aim at.
 #[derive(Clone, Copy, Debug, Default)]
 pub struct Roles {
@@ -245,10 +254,19 @@ impl Volume {
         self.index.len() as u32 - 2 - self.plan.index_map_blocks()
     }
 
+    /// The numbers from 6 on, rising, that have a slot and that no header of a file has.
+    pub fn unused_numbers(&self) -> impl Iterator<Item = u16> {
+        let last = self.last_slot().min(u32::from(self.plan.h_fmax)) as u16;
+        let mut is_used = vec![false; 65_536];
+        for header in self.headers() {
+            is_used[usize::from(header.number)] = true;
+        }
+        (6..=last).filter(move |&number| !is_used[usize::from(number)])
+    }
+
     /// The lowest number from 6 on that has a slot and that no header of a file has.
     pub fn unused_number(&self) -> Option<u16> {
-        let last = self.last_slot().min(u32::from(self.plan.h_fmax)) as u16;
-        (6..=last).find(|&number| self.headers().all(|header| header.number != number))
+        self.unused_numbers().next()
     }
 
     /// Puts a number's bit of the index map.
@@ -304,15 +322,13 @@ impl Volume {
     /// Puts a record into a directory, at a place from 0.
     pub fn put_record(&mut self, directory: u16, place: u32, record: Record) {
         let lbns = self.file(directory).lbns();
-        let block = self.block_mut(lbns[(place / BLOCK_RECORDS) as usize]);
-        let start = (place % BLOCK_RECORDS) as usize * RECORD_BYTES;
-        put_words(block, start, &record.id);
-        put_words(block, start + 6, &record.name);
-        self.records.push(Placed {
+        let placed = Placed {
             directory,
             place,
             record,
-        });
+        };
+        placed.put(self.block_mut(lbns[(place / BLOCK_RECORDS) as usize]));
+        self.records.push(placed);
     }
 
     /// Which blocks a pointer of a file covers.

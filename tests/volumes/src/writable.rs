@@ -12,28 +12,29 @@ use crate::volume::{File, Volume};
 /// A random sound volume, which may have little room of one kind or another.
 pub fn random_volume_to_write(random: &mut Random, size: Size) -> Volume {
     let mut volume = random_volume(random, size);
+    make_writable(random, &mut volume);
+    volume
+}
+
+/// Leaves a sound volume little room of one kind or another, or as it is.
+pub(crate) fn make_writable(random: &mut Random, volume: &mut Volume) {
     if random.once_in(3) {
-        fill(random, &mut volume);
+        fill(random, volume);
     }
     if random.once_in(3) {
-        use_up_numbers(random, &mut volume);
+        use_up_numbers(random, volume);
     }
     for _ in 0..random.between(0, 3) {
-        narrow(random, &mut volume);
+        narrow(random, volume);
     }
     for _ in 0..random.between(0, 2) {
-        flag(random, &mut volume);
+        flag(random, volume);
     }
-    volume
 }
 
 /// The numbers from 6 on that have a slot and that no file has.
 pub fn unused_numbers(volume: &Volume) -> Vec<u16> {
-    let last = volume.last_slot().min(u32::from(volume.plan.h_fmax)) as u16;
-    let mut numbers: Vec<u16> = (6..=last).collect();
-    let used: Vec<u16> = volume.headers().map(|header| header.number).collect();
-    numbers.retain(|number| !used.contains(number));
-    numbers
+    volume.unused_numbers().collect()
 }
 
 /// The blocks that no file has.

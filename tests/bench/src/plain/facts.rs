@@ -66,7 +66,7 @@ fn seek(image: &[u8], number: u16) -> Result<Header<'_>, Refusal> {
 impl Volume<'_> {
     /// Where its parts lie.
     fn geometry(&self) -> [u64; 9] {
-        let slots = self.index.blocks() - (2 + self.m);
+        let slots = self.index.blocks(self.image) - (2 + self.m);
         [
             self.blocks.into(),
             self.home.into(),

@@ -1,7 +1,7 @@
 //! Create, extend and delete in plain Rust. The volume is judged first, without the four counts of
 //! the verdict, which these calls do not answer.
 
-use super::{block, is_proper, judged, sum, word, Answer, Header, Placed, Pointers, Volume, BLOCK};
+use super::{block, is_proper, judged, sum, word, Answer, Header, Placed, Volume, BLOCK};
 use super::{LOCKED, NAME, NUMBER, RELVOL, SEGMENT, SEQUENCE};
 
 const KNOWN: u64 = 22;
@@ -211,16 +211,15 @@ fn try_delete(image: &mut [u8], id: [u16; 3], areas: Areas) -> Result<[u32; 3], 
     let volume = judged(image, areas.0, areas.1)?;
     let mut slot = volume.slot_to_change(id)?;
     let maps = (Map(volume.h_iblb), Map(volume.bits));
-    // The index file keeps its header, so that slots are found after some are cleared.
-    let index = *block(image, volume.h_iblb + volume.m);
+    // The index file keeps its headers, so that slots are found after some are cleared.
+    let index = volume.index;
     let m = volume.m;
     loop {
         let next = remove(image, slot, maps);
         if next == 0 {
             return Ok([0; 3]);
         }
-        let pointers: Pointers = Header::known(&index).pointers();
-        let lbn = pointers.lbn(1 + m + u32::from(next));
+        let lbn = index.lbn(image, 1 + m + u32::from(next));
         slot = lbn.expect("FILES passed");
     }
 }
@@ -244,6 +243,7 @@ mod tests {
     use super::*;
     use model::{writing, Id, Name};
     use volumes::directory::name_words;
+    use volumes::long_index::random_long_volume_to_write;
     use volumes::shapes::Size;
     use volumes::writable::random_volume_to_write;
     use volumes::Random;
@@ -296,7 +296,10 @@ mod tests {
         let mut met: Met = [0; 29];
         for seed in 0..400 {
             let mut random = Random::new(seed);
-            let volume = random_volume_to_write(&mut random, Size::Small);
+            let volume = match seed % 4 {
+                0 => random_long_volume_to_write(&mut random, Size::Small),
+                _ => random_volume_to_write(&mut random, Size::Small),
+            };
             let headers = volume.headers();
             let mut ids: Vec<[u16; 3]> = headers.map(|it| [it.number, it.sequence, 0]).collect();
             let mut image = volume.image.clone();

@@ -1,7 +1,7 @@
 //! Damages of a header, one or more for each of the twelve tests of "whole", in a header of each
 //! kind.
 
-use super::{Damage, Expected};
+use super::{one_index_header, Damage, Expected};
 use crate::block::{add_to_word, put_word, CHECKSUM};
 use crate::header::{at, in_map, Pointer};
 use crate::volume::Volume;
@@ -12,6 +12,10 @@ use model::Number;
 pub enum Target {
     /// Header 1.
     Index,
+    /// The second header of an index file that has several.
+    SecondIndex,
+    /// The last header of an index file that has several.
+    LastIndex,
     /// Header 2.
     Storage,
     /// Header 3.
@@ -43,6 +47,8 @@ impl Target {
     pub fn name(self) -> &'static str {
         match self {
             Target::Index => "header 1",
+            Target::SecondIndex => "second index header",
+            Target::LastIndex => "last index header",
             Target::Storage => "header 2",
             Target::BadBlock => "header 3",
             Target::Directory => "header 4",
@@ -58,6 +64,8 @@ impl Target {
         let chained = volume.roles.chained;
         match self {
             Target::Index => (1, 0),
+            Target::SecondIndex => (1, 1),
+            Target::LastIndex => (1, volume.file(1).headers.len() - 1),
             Target::Storage => (2, 0),
             Target::BadBlock => (3, 0),
             Target::Directory => (4, 0),
@@ -91,9 +99,9 @@ impl Target {
     pub fn not_whole(self, volume: &Volume) -> Expected {
         let (file, place) = self.place(volume);
         let id = volume.file(file).id();
-        match (self, place) {
-            (Target::Index, _) => Expected::Volume(Number::Index),
-            (Target::Storage, _) => Expected::Volume(Number::Storage),
+        match (file, place) {
+            (1, _) => Expected::Volume(Number::Index),
+            (2, _) => Expected::Volume(Number::Storage),
             (_, 0) => Expected::File(id, Number::Header),
             _ => Expected::File(id, Number::Chain),
         }
@@ -102,8 +110,8 @@ impl Target {
     /// What is answered where nothing is wrong with this header.
     pub fn done(self, volume: &Volume) -> Expected {
         let (file, _) = self.place(volume);
-        match self {
-            Target::Index | Target::Storage => Expected::Volume(Number::Done),
+        match file {
+            1 | 2 => Expected::Volume(Number::Done),
             _ => Expected::File(volume.file(file).id(), Number::Done),
         }
     }
@@ -431,31 +439,55 @@ fn of_target(
     })
 }
 
+/// A damage of header 1 that moves what further headers of the index file map.
+fn of_only_index_header(damage: Damage) -> Damage {
+    Damage::new(damage.name, move |volume| {
+        one_index_header(volume)?;
+        (damage.edit)(volume)
+    })
+}
+
 /// All damages of headers.
 pub fn damages() -> Vec<Damage> {
     let mut all = Vec::new();
     for target in Target::OPENED {
-        for (name, change) in NOT_WHOLE {
-            all.push(of_target(target, name, *change, Target::not_whole));
-        }
-        for (name, change) in WHOLE {
-            all.push(of_target(target, name, *change, Target::done));
-        }
-        for (name, change) in CHECKSUMS {
-            let damage = of_target(target, name, *change, Target::not_whole);
-            all.push(Damage {
-                of_checksum: true,
-                ..damage
-            });
-        }
-        // Header 2 must map just the blocks that it maps.
-        for (name, change) in POINTERS {
-            let expected = match target {
-                Target::Storage => Target::not_whole,
-                _ => Target::done,
-            };
-            all.push(of_target(target, name, *change, expected));
-        }
+        all.extend(of_one_header(target));
+        all.extend(more_pointers(target));
     }
     all
+}
+
+/// All damages of a header but of what it maps.
+pub fn of_one_header(target: Target) -> Vec<Damage> {
+    let mut all = Vec::new();
+    for (name, change) in NOT_WHOLE {
+        all.push(of_target(target, name, *change, Target::not_whole));
+    }
+    for (name, change) in WHOLE {
+        all.push(of_target(target, name, *change, Target::done));
+    }
+    for (name, change) in CHECKSUMS {
+        let damage = of_target(target, name, *change, Target::not_whole);
+        all.push(Damage {
+            of_checksum: true,
+            ..damage
+        });
+    }
+    all
+}
+
+/// A pointer more in a header. What its file maps after it moves on, which matters to the index file
+/// alone.
+pub fn more_pointers(target: Target) -> Vec<Damage> {
+    // Header 2 must map just the blocks that it maps.
+    let expected = match target {
+        Target::Storage => Target::not_whole,
+        _ => Target::done,
+    };
+    let changes = POINTERS.iter();
+    let damages = changes.map(|(name, change)| of_target(target, name, *change, expected));
+    match target {
+        Target::Index => damages.map(of_only_index_header).collect(),
+        _ => damages.collect(),
+    }
 }

@@ -1,6 +1,6 @@
 //! Damages of the index file and of the storage map file, beyond those of any header.
 
-use super::{Damage, Expected};
+use super::{one_index_header, Damage, Expected};
 use crate::block::put_word;
 use crate::damage::header::{put_link, Target};
 use crate::header::{at, in_map, pointers_of, Areas, Header, Pointer, MOST_POINTERS};
@@ -42,13 +42,23 @@ fn of_known_header(target: Target, own: u16) -> Vec<Damage> {
             let extension = volume.file(volume.roles.chained).headers[1].clone();
             let mut edit = target.edit(volume);
             put_link(edit.map_mut(), extension.number, extension.sequence);
-            Some(target.not_whole(volume))
+            if target != Target::Index {
+                return Some(target.not_whole(volume));
+            }
+            // Paper 02, 9/14: "no longer for an extension as such".
+            one_index_header(volume)?;
+            Some(target.done(volume))
         },
     ));
     all.push(Damage::new(
         format!("{}: a link with sequence 0", target.name()),
         move |volume| {
-            put_link(target.edit(volume).map_mut(), 256, 0);
+            // To a number that no header has.
+            let number = 256;
+            if volume.headers().any(|header| header.number == number) {
+                return None;
+            }
+            put_link(target.edit(volume).map_mut(), number, 0);
             Some(target.not_whole(volume))
         },
     ));

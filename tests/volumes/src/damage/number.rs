@@ -1,7 +1,7 @@
 //! Damages of what opening a file asks before its links: the number, the sequence, the segment and
 //! the flags.
 
-use super::{Damage, Expected};
+use super::{one_index_header, Damage, Expected};
 use crate::block::{add_to_word, put_word};
 use crate::damage::header::Target;
 use crate::header::{at, in_map, pointers_of, Areas, Header, MOST_POINTERS};
@@ -30,7 +30,7 @@ fn opens_as(volume: &Volume, number: Number) -> Option<Expected> {
 }
 
 /// Puts H.FMAX, if the geometry allows it.
-fn put_h_fmax(volume: &mut Volume, h_fmax: u16) -> Option<()> {
+pub fn put_h_fmax(volume: &mut Volume, h_fmax: u16) -> Option<()> {
     let m = volume.plan.index_map_blocks();
     if h_fmax < 16 || u32::from(h_fmax).div_ceil(4_096) != m {
         return None;
@@ -48,6 +48,7 @@ fn numbers() -> Vec<Damage> {
             opens_as(volume, Number::Number)
         }),
         Damage::new("number: the bits of its neighbours", |volume| {
+            one_index_header(volume)?;
             let number = volume.roles.plain;
             volume.put_in_use(number - 1, false);
             if number < volume.plan.h_fmax {
@@ -63,6 +64,7 @@ fn numbers() -> Vec<Damage> {
             opens_as(volume, Number::Done)
         }),
         Damage::new("number: no bit of the index map set", |volume| {
+            one_index_header(volume)?;
             let first = volume.plan.h_iblb;
             for lbn in first..first + volume.plan.index_map_blocks() {
                 volume.block_mut(lbn).fill(0);
@@ -70,10 +72,12 @@ fn numbers() -> Vec<Damage> {
             opens_as(volume, Number::Number)
         }),
         Damage::new("number: H.FMAX one below it", |volume| {
+            one_index_header(volume)?;
             put_h_fmax(volume, volume.roles.plain - 1)?;
             opens_as(volume, Number::Number)
         }),
         Damage::new("number: H.FMAX the number itself", |volume| {
+            one_index_header(volume)?;
             put_h_fmax(volume, volume.roles.plain)?;
             opens_as(volume, Number::Done)
         }),

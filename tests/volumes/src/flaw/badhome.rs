@@ -1,6 +1,6 @@
 //! Flaws of BADHOME: "a home position below the home, not covered by a header of file 3".
 
-use super::{add_pointer, free_lbns, still_sound, Flaw, Offenders, Which};
+use super::{add_pointer, free_lbns, last_index_header, still_sound, Flaw, Offenders, Which};
 use crate::header::{pointers_of, Areas, Header};
 use crate::shapes::home_positions;
 use crate::volume::{File, Volume};
@@ -164,7 +164,7 @@ fn missing() -> Vec<Flaw> {
 fn of_other_files() -> Vec<Flaw> {
     let mut all = Vec::new();
     let others: [(&str, Which); 6] = [
-        ("file 1", |_| 1),
+        ("file 1", last_index_header),
         ("file 4", |_| 4),
         ("file 5", |_| 5),
         ("a file of one header", |volume| volume.roles.plain),

@@ -177,15 +177,26 @@ fn unused() -> Vec<Flaw> {
     ]
 }
 
-/// Puts an index file that ends with the slot of a number, 16 or higher.
-fn end_slots_at(volume: &mut Volume, last: u32) {
+/// Puts an index file that ends with the slot of a number, 16 or higher: what is past it is taken out of
+/// each header. None where a further header of the index file would have no slot.
+fn end_slots_at(volume: &mut Volume, last: u32) -> Option<()> {
     assert!(last >= 16);
+    let headers = volume.file(1).headers.clone();
+    if headers.iter().any(|header| u32::from(header.number) > last) {
+        return None;
+    }
     let length = 2 + volume.plan.index_map_blocks() + last;
-    let pointers = pointers_of(&volume.index[..length as usize]);
-    volume.edit_header(1, |header| {
-        header.pointers = pointers;
-        header.areas = Areas::LARGEST;
-    });
+    let mut start = 0;
+    for header in headers {
+        let end = (start + header.blocks()).min(length.max(start));
+        let pointers = pointers_of(&volume.index[start as usize..end as usize]);
+        volume.edit_header(header.number, |header| {
+            header.pointers = pointers;
+            header.areas = Areas::LARGEST;
+        });
+        start = end;
+    }
+    Some(())
 }
 
 /// The numbers of headers above a number.
@@ -221,17 +232,17 @@ fn slots() -> Vec<Flaw> {
             if last < 16 {
                 return None;
             }
-            end_slots_at(volume, last);
+            end_slots_at(volume, last)?;
             Some(numbers_above(volume, last))
         }),
         flaw("the index file ends with slot 16", |volume| {
             let numbers = numbers_above(volume, 16);
-            end_slots_at(volume, 16);
+            end_slots_at(volume, 16)?;
             Some(numbers).filter(|numbers| !numbers.is_empty())
         }),
         flaw("the index file ends with the last header", |volume| {
             let last = volume.headers().map(|header| header.number).max()?;
-            end_slots_at(volume, u32::from(last.max(16)));
+            end_slots_at(volume, u32::from(last.max(16)))?;
             still_sound(volume)
         }),
     ]

@@ -1,6 +1,9 @@
 //! Flaws of TWICE: "LBN covered by two places in pointers of headers in use".
 
-use super::{add_header, add_pointer, free_lbns, free_run, still_sound, Flaw, Offenders, Which};
+use super::{
+    add_header, add_pointer, free_lbns, free_run, last_index_header, still_sound, Flaw, Offenders,
+    Which,
+};
 use crate::header::{Areas, Pointer, MOST_POINTERS};
 use crate::volume::Volume;
 use model::Number;
@@ -179,27 +182,27 @@ fn known_files() -> Vec<Flaw> {
     vec![
         flaw("the index file has the home twice", |volume| {
             let home = volume.plan.home;
-            add_pointer(volume, 1, home, 1)?;
+            add_pointer(volume, last_index_header(volume), home, 1)?;
             Some(vec![home])
         }),
         flaw("the index file has the index map as a slot", |volume| {
             let lbn = volume.plan.h_iblb;
-            add_pointer(volume, 1, lbn, 1)?;
+            add_pointer(volume, last_index_header(volume), lbn, 1)?;
             Some(vec![lbn])
         }),
         flaw("the index file has a slot twice", |volume| {
             let lbn = volume.slot_of(16);
-            add_pointer(volume, 1, lbn, 1)?;
+            add_pointer(volume, last_index_header(volume), lbn, 1)?;
             Some(vec![lbn])
         }),
         flaw("the index file has a block of a file", |volume| {
             let lbn = *volume.file(volume.roles.plain).lbns().first()?;
-            add_pointer(volume, 1, lbn, 1)?;
+            add_pointer(volume, last_index_header(volume), lbn, 1)?;
             Some(vec![lbn])
         }),
         flaw("the index file has a free block more", |volume| {
             let lbn = *free_lbns(volume).first()?;
-            add_pointer(volume, 1, lbn, 1)?;
+            add_pointer(volume, last_index_header(volume), lbn, 1)?;
             still_sound(volume)
         }),
         flaw("bits and control block are one", |volume| {
