@@ -1,9 +1,12 @@
 //! The calls in plain Rust: the same work as the exported calls do, on slices, without allocation
 //! and without proofs. Each call opens the volume anew, as theirs do; those that change an image,
-//! which are in [`writing`], judge it first.
+//! which are in [`writing`], judge it first. Opening fills an array that its caller lends with the
+//! places of the index file's headers, and the open volume refers to it.
 
 pub mod facts;
 pub mod writing;
+
+use std::ops::Range;
 
 /// An answer as the exported calls write it: number, place, ten value words.
 pub type Answer = [u64; 12];
@@ -58,9 +61,9 @@ fn sum(words: &[u8]) -> u16 {
 #[derive(Clone, Copy)]
 struct Pointers<'a>(&'a [u8]);
 
-impl Pointers<'_> {
+impl<'a> Pointers<'a> {
     /// Each pointer's LBN and block count, in order.
-    fn iter(&self) -> impl ExactSizeIterator<Item = (u32, u32)> + '_ {
+    fn iter(self) -> impl ExactSizeIterator<Item = (u32, u32)> + 'a {
         self.0.chunks_exact(4).map(|bytes| {
             let lbn = u32::from_le_bytes([bytes[2], bytes[3], bytes[0], 0]);
             (lbn, u32::from(bytes[1]) + 1)
@@ -68,7 +71,7 @@ impl Pointers<'_> {
     }
 
     /// The LBN of a block, counted from 0, or how many blocks it is past the last.
-    fn lbn(&self, mut ahead: u32) -> Result<u32, u32> {
+    fn lbn(self, mut ahead: u32) -> Result<u32, u32> {
         for (lbn, blocks) in self.iter() {
             if ahead < blocks {
                 return Ok(lbn + ahead);
@@ -78,8 +81,14 @@ impl Pointers<'_> {
         Err(ahead)
     }
 
+    /// The LBNs of the first, and the others, if there is one.
+    fn split_first(self) -> Option<(Range<u32>, Pointers<'a>)> {
+        let (lbn, blocks) = self.iter().next()?;
+        Some((lbn..lbn + blocks, Pointers(&self.0[4..])))
+    }
+
     /// How many blocks they cover.
-    fn blocks(&self) -> u32 {
+    fn blocks(self) -> u32 {
         self.iter().map(|(_, blocks)| blocks).sum()
     }
 }
@@ -141,9 +150,89 @@ impl<'a> Header<'a> {
         (word(self.map, 2), word(self.map, 4))
     }
 
-    /// Whether it can be the header of file 1 or 2.
+    /// Whether it can be the first header of file 1 or 2.
     fn is_known(&self, number: u16) -> bool {
-        self.sequence() == number && self.segment() == 0 && self.link().0 == 0
+        self.sequence() == number && self.segment() == 0
+    }
+}
+
+/// The most headers of a chain.
+const MOST_HEADERS: usize = 256;
+
+/// Room for the LBNs of the index file's headers.
+type Places = [u32; MOST_HEADERS];
+
+/// Room that nothing was put into yet.
+const NO_PLACES: Places = [0; MOST_HEADERS];
+
+/// The index file.
+#[derive(Clone, Copy)]
+struct Index<'a> {
+    image: &'a [u8],
+    /// The LBNs of its headers, in the order of its chain; all are whole.
+    places: &'a [u32],
+}
+
+impl<'a> Index<'a> {
+    /// The pointers of each header, in order.
+    fn pointers(self) -> impl Iterator<Item = Pointers<'a>> {
+        let blocks = self.places.iter().map(move |&lbn| block(self.image, lbn));
+        blocks.map(|block| Header::known(block).pointers())
+    }
+
+    /// The LBN of a block, counted from 0, if the file has so many.
+    fn lbn(self, mut ahead: u32) -> Option<u32> {
+        for pointers in self.pointers() {
+            match pointers.lbn(ahead) {
+                Ok(lbn) => return Some(lbn),
+                Err(past) => ahead = past,
+            }
+        }
+        None
+    }
+
+    /// How many blocks it has.
+    fn blocks(self) -> u32 {
+        self.pointers().map(Pointers::blocks).sum()
+    }
+
+    /// The LBNs of its blocks, in order.
+    fn lbns(self) -> Lbns<'a> {
+        Lbns {
+            ahead: self,
+            pointers: Pointers(&[]),
+            run: 0..0,
+        }
+    }
+}
+
+/// A walk over the blocks of the index file, which keeps the header and the pointer that it stands in.
+struct Lbns<'a> {
+    /// The headers that it did not come to yet.
+    ahead: Index<'a>,
+    /// The header's pointers that it did not come to yet.
+    pointers: Pointers<'a>,
+    /// The pointer's blocks that it did not come to yet.
+    run: Range<u32>,
+}
+
+impl Iterator for Lbns<'_> {
+    type Item = u32;
+
+    fn next(&mut self) -> Option<u32> {
+        loop {
+            if let Some(lbn) = self.run.next() {
+                return Some(lbn);
+            }
+            if let Some((pointer, others)) = self.pointers.split_first() {
+                self.run = pointer;
+                self.pointers = others;
+            } else {
+                let (&lbn, others) = self.ahead.places.split_first()?;
+                self.ahead.places = others;
+                self.pointers = Header::known(block(self.ahead.image, lbn)).pointers();
+            }
+        }
     }
 }
 
@@ -156,7 +245,7 @@ struct Volume<'a> {
     h_iblb: u32,
     /// m, the blocks of the index map.
     m: u32,
-    index: Pointers<'a>,
+    index: Index<'a>,
     /// The LBN of the first block of bits of the storage map.
     bits: u32,
 }
@@ -174,7 +263,7 @@ fn is_home(block: &[u8; BLOCK]) -> bool {
 }
 
 impl<'a> Volume<'a> {
-    fn open(image: &'a [u8]) -> Result<Volume<'a>, Refusal> {
+    fn open(image: &'a [u8], places: &'a mut Places) -> Result<Volume<'a>, Refusal> {
         let blocks = image.len() / BLOCK;
         if image.len() % BLOCK != 0 || !(100..=1_044_480).contains(&blocks) {
             return Err(SIZE);
@@ -191,8 +280,6 @@ impl<'a> Volume<'a> {
         if h_fmax < 16 || u32::from(word(bytes, 0)) != m || end > u64::from(blocks) {
             return Err(GEOMETRY);
         }
-        let header = Header::whole(block(image, h_iblb + m), 1, blocks);
-        let header = header.filter(|it| it.is_known(1)).ok_or(INDEX)?;
         let mut volume = Volume {
             image,
             blocks,
@@ -200,19 +287,42 @@ impl<'a> Volume<'a> {
             h_fmax,
             h_iblb,
             m,
-            index: header.pointers(),
+            index: Index { image, places: &[] },
             bits: 0,
         };
-        if !volume.index_is_right() {
-            return Err(INDEX);
-        }
+        let headers = volume.find_index(places).ok_or(INDEX)?;
+        volume.index.places = &places[..headers];
         volume.bits = volume.storage_bits().ok_or(STORAGE)?;
         Ok(volume)
     }
 
-    /// Whether the index file maps the blocks that it must.
-    fn index_is_right(&self) -> bool {
-        let pointers = self.index.iter();
+    /// Puts the LBNs of the index file's headers, and answers how many there are, if the file is
+    /// right. The slot of each further header is one that those before it map.
+    fn find_index(&self, places: &mut Places) -> Option<usize> {
+        let first = self.h_iblb + self.m;
+        let header = Header::whole(block(self.image, first), 1, self.blocks);
+        let mut header = header.filter(|it| it.is_known(1))?;
+        if !self.index_starts_right(header.pointers()) {
+            return None;
+        }
+        places[0] = first;
+        let mut headers = 1;
+        while header.link().0 != 0 {
+            let index = Index {
+                image: self.image,
+                places: &places[..headers],
+            };
+            let lbn = self.slot_lbn_in(index, header.link().0)?;
+            header = self.linked(header, block(self.image, lbn))?;
+            places[headers] = lbn;
+            headers += 1;
+        }
+        Some(headers)
+    }
+
+    /// Whether the first header of the index file maps the blocks that it must.
+    fn index_starts_right(&self, pointers: Pointers) -> bool {
+        let pointers = pointers.iter();
         let mut mapped = pointers.flat_map(|(lbn, blocks)| lbn..lbn + blocks);
         let known = self.h_iblb..self.h_iblb + self.m + 16;
         let mut expected = [0, self.home].into_iter().chain(known);
@@ -223,7 +333,7 @@ impl<'a> Volume<'a> {
     fn storage_bits(&self) -> Option<u32> {
         let q = self.blocks.div_ceil(4_096);
         let header = Header::whole(block(self.image, self.h_iblb + self.m + 1), 2, self.blocks);
-        let header = header.filter(|it| it.is_known(2))?;
+        let header = header.filter(|it| it.is_known(2) && it.link().0 == 0)?;
         let pointers = header.pointers();
         let mut pointers = pointers.iter();
         let (control, bits) = match (pointers.next(), pointers.next(), pointers.next()) {
@@ -246,18 +356,33 @@ impl<'a> Volume<'a> {
         self.index_map()[bit / 8] >> (bit % 8) & 1 == 1
     }
 
-    /// The LBN of a number's slot, if it is in use and has one.
-    fn slot_lbn(&self, number: u16) -> Option<u32> {
+    /// The LBN of a number's slot, if it is in use and has one in the index file as far as it is
+    /// known.
+    fn slot_lbn_in(&self, index: Index, number: u16) -> Option<u32> {
         if number == 0 || number > self.h_fmax || !self.in_use(number.into()) {
             return None;
         }
-        self.index.lbn(1 + self.m + u32::from(number)).ok()
+        index.lbn(1 + self.m + u32::from(number))
+    }
+
+    /// The LBN of a number's slot, if it is in use and has one.
+    fn slot_lbn(&self, number: u16) -> Option<u32> {
+        self.slot_lbn_in(self.index, number)
     }
 
     /// The block of a number's slot, if it is in use and has one.
     fn slot(&self, number: u16) -> Option<&'a [u8; BLOCK]> {
         let lbn = self.slot_lbn(number)?;
         Some(block(self.image, lbn))
+    }
+
+    /// The header in the slot of the number that a header links to, if the link is good.
+    fn linked(&self, header: Header, slot: &'a [u8; BLOCK]) -> Option<Header<'a>> {
+        let (number, sequence) = header.link();
+        let next = Header::whole(slot, number, self.blocks)?;
+        let segment = u16::from(header.segment()) + 1;
+        let good = next.sequence() == sequence && u16::from(next.segment()) == segment;
+        good.then_some(next)
     }
 
     /// Opens a file, and hands each of its headers over in order.
@@ -279,17 +404,11 @@ impl<'a> Volume<'a> {
         }
         loop {
             each(header);
-            let (number, sequence) = header.link();
-            if number == 0 {
+            if header.link().0 == 0 {
                 return Ok(());
             }
-            let slot = self.slot(number).ok_or(CHAIN)?;
-            let next = Header::whole(slot, number, self.blocks).ok_or(CHAIN)?;
-            let segment = u16::from(header.segment()) + 1;
-            if next.sequence() != sequence || u16::from(next.segment()) != segment {
-                return Err(CHAIN);
-            }
-            header = next;
+            let slot = self.slot(header.link().0).ok_or(CHAIN)?;
+            header = self.linked(header, slot).ok_or(CHAIN)?;
         }
     }
 }
@@ -306,7 +425,8 @@ fn put(answer: &mut Answer, result: Result<&[u64], Refusal>) {
 /// As `ods1_open_volume`.
 #[inline(never)]
 pub fn open_volume(image: &[u8], answer: &mut Answer) {
-    match Volume::open(image) {
+    let mut places = NO_PLACES;
+    match Volume::open(image, &mut places) {
         Ok(volume) => put(answer, Ok(&[volume.home.into()])),
         Err(number) => put(answer, Err(number)),
     }
@@ -322,7 +442,8 @@ pub fn open_file(image: &[u8], id: [u16; 3], answer: &mut Answer) {
 }
 
 fn count_blocks(image: &[u8], id: [u16; 3]) -> Result<u32, Refusal> {
-    let volume = Volume::open(image)?;
+    let mut places = NO_PLACES;
+    let volume = Volume::open(image, &mut places)?;
     let mut blocks = 0;
     volume.each_header(id, |header| blocks += header.pointers().blocks())?;
     Ok(blocks)
@@ -338,7 +459,8 @@ pub fn map(image: &[u8], id: [u16; 3], vbn: u32, answer: &mut Answer) {
 }
 
 fn lbn_of(image: &[u8], id: [u16; 3], vbn: u32) -> Result<u32, Refusal> {
-    let volume = Volume::open(image)?;
+    let mut places = NO_PLACES;
+    let volume = Volume::open(image, &mut places)?;
     let mut found = None;
     // VBN 0 becomes the last number of all, which is past every file.
     let mut ahead = vbn.wrapping_sub(1);
@@ -373,7 +495,8 @@ fn records<'a>(image: &'a [u8], pointers: Pointers<'a>) -> impl Iterator<Item = 
 }
 
 fn find_name(image: &[u8], id: [u16; 3], name: [u16; 5]) -> Result<[u16; 3], Refusal> {
-    let volume = Volume::open(image)?;
+    let mut places = NO_PLACES;
+    let volume = Volume::open(image, &mut places)?;
     let mut bytes = [0; 10];
     for (two, word) in bytes.chunks_exact_mut(2).zip(name) {
         two.copy_from_slice(&word.to_le_bytes());
@@ -436,7 +559,8 @@ pub fn next_record(image: &[u8], id: [u16; 3], place: u32, answer: &mut Answer) 
 }
 
 fn find_record(image: &[u8], id: [u16; 3], place: u32) -> Option<(&[u8], u32)> {
-    let volume = Volume::open(image).ok()?;
+    let mut places = NO_PLACES;
+    let volume = Volume::open(image, &mut places).ok()?;
     let mut found = None;
     // The place of the first record of the next pointer.
     let mut start = 0;
@@ -475,7 +599,8 @@ pub fn judge(image: &[u8], blocks: &mut [u8], headers: &mut [u8], answer: &mut A
 type Placed = (Refusal, u32);
 
 fn verdict(image: &[u8], blocks: &mut [u8], headers: &mut [u8]) -> Result<[u64; 4], Placed> {
-    let volume = judged(image, blocks, headers)?;
+    let mut places = NO_PLACES;
+    let volume = judged(image, &mut places, blocks, headers)?;
     let blocks = &blocks[..volume.blocks as usize];
     let claimed = blocks.iter().filter(|&&mark| mark > 0).count();
     let free = volume.storage_map().iter();
@@ -488,10 +613,11 @@ fn verdict(image: &[u8], blocks: &mut [u8], headers: &mut [u8]) -> Result<[u64; 
 /// The volume that an image holds, if the verdict accepts it; the marks are left.
 fn judged<'a>(
     image: &'a [u8],
+    places: &'a mut Places,
     blocks: &mut [u8],
     headers: &mut [u8],
 ) -> Result<Volume<'a>, Placed> {
-    let volume = Volume::open(image).map_err(|number| (number, 0))?;
+    let volume = Volume::open(image, places).map_err(|number| (number, 0))?;
     if blocks.len() < volume.blocks as usize || headers.len() < usize::from(volume.h_fmax) {
         return Err((WORK, 0));
     }
@@ -528,10 +654,9 @@ impl<'a> Volume<'a> {
         &self.image[start..start + length]
     }
 
-    /// The LBN of each slot of a number up to H.FMAX, run by run.
-    fn slot_lbns(&self) -> impl Iterator<Item = u32> + '_ {
-        let pointers = self.index.iter();
-        let lbns = pointers.flat_map(|(lbn, blocks)| lbn..lbn + blocks);
+    /// The LBN of each slot of a number up to H.FMAX, header by header and run by run.
+    fn slot_lbns(&self) -> impl Iterator<Item = u32> + 'a {
+        let lbns = self.index.lbns();
         lbns.skip(2 + self.m as usize).take(self.h_fmax.into())
     }
 

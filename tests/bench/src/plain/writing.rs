@@ -1,8 +1,8 @@
 //! Create, extend and delete in plain Rust. The volume is judged first, without the four counts of
 //! the verdict, which these calls do not answer.
 
-use super::{block, is_proper, judged, sum, word, Answer, Header, Placed, Pointers, Volume, BLOCK};
-use super::{LOCKED, NAME, NUMBER, RELVOL, SEGMENT, SEQUENCE};
+use super::{block, is_proper, judged, sum, word, Answer, Header, Index, Placed, Volume, BLOCK};
+use super::{LOCKED, NAME, NO_PLACES, NUMBER, RELVOL, SEGMENT, SEQUENCE};
 
 const KNOWN: u64 = 22;
 const FIXED: u64 = 23;
@@ -82,7 +82,8 @@ fn try_create(
     (owner, protection): (u16, u16),
     areas: Areas,
 ) -> Result<[u32; 3], Placed> {
-    let volume = judged(image, areas.0, areas.1)?;
+    let mut places = NO_PLACES;
+    let volume = judged(image, &mut places, areas.0, areas.1)?;
     if !is_proper(name) {
         return Err((NAME, 0));
     }
@@ -171,7 +172,8 @@ fn try_extend(
     count: u32,
     areas: Areas,
 ) -> Result<[u32; 3], Placed> {
-    let volume = judged(image, areas.0, areas.1)?;
+    let mut places = NO_PLACES;
+    let volume = judged(image, &mut places, areas.0, areas.1)?;
     let mut lbn = volume.slot_to_change(id)?;
     if block(image, lbn)[12] & 128 != 0 {
         return Err((FIXED, 0));
@@ -208,19 +210,22 @@ pub fn delete(image: &mut [u8], id: [u16; 3], areas: Areas, answer: &mut Answer)
 }
 
 fn try_delete(image: &mut [u8], id: [u16; 3], areas: Areas) -> Result<[u32; 3], Placed> {
-    let volume = judged(image, areas.0, areas.1)?;
+    let mut places = NO_PLACES;
+    let volume = judged(image, &mut places, areas.0, areas.1)?;
     let mut slot = volume.slot_to_change(id)?;
     let maps = (Map(volume.h_iblb), Map(volume.bits));
-    // The index file keeps its header, so that slots are found after some are cleared.
-    let index = *block(image, volume.h_iblb + volume.m);
-    let m = volume.m;
+    let (m, headers) = (volume.m, volume.index.places.len());
     loop {
         let next = remove(image, slot, maps);
         if next == 0 {
             return Ok([0; 3]);
         }
-        let pointers: Pointers = Header::known(&index).pointers();
-        let lbn = pointers.lbn(1 + m + u32::from(next));
+        // The index file keeps its headers, so that slots are found after some are cleared.
+        let index = Index {
+            image,
+            places: &places[..headers],
+        };
+        let lbn = index.lbn(1 + m + u32::from(next));
         slot = lbn.expect("FILES passed");
     }
 }
