@@ -9,7 +9,7 @@ use std::collections::{HashSet, VecDeque};
 use std::fs::{self, File};
 use std::hint::black_box;
 use std::path::{Path, PathBuf};
-use std::process::{id, Command};
+use std::process::Command;
 use std::time::{Duration, Instant};
 
 use memmap2::Mmap;
@@ -17,6 +17,7 @@ use ods1::{FileId, Refusal, WorkAreas};
 use volumes::large::{large_volume, largest_plan};
 use volumes::station::station;
 
+use crate::folder::Folder;
 use crate::volumes_to_judge;
 
 /// How often each process is run.
@@ -147,31 +148,6 @@ fn measure(name: &str, verb: &str, image: &Path) {
     );
 }
 
-/// A folder for images, removed when this is dropped.
-struct Folder(PathBuf);
-
-impl Folder {
-    fn new() -> Folder {
-        let path = std::env::temp_dir().join(format!("ods1-bench-{}", id()));
-        fs::create_dir(&path).expect("a folder can be made");
-        Folder(path)
-    }
-
-    /// Writes an image.
-    fn put(&self, name: &str, image: &[u8]) -> PathBuf {
-        let path = self.0.join(name);
-        fs::write(&path, image).expect("an image can be written");
-        path
-    }
-}
-
-impl Drop for Folder {
-    fn drop(&mut self) {
-        // What stays is in the folder of temporary files.
-        let _ = fs::remove_dir_all(&self.0);
-    }
-}
-
 /// The tool, which lies beside this program where make bench has built it.
 fn tool() -> PathBuf {
     let this = std::env::current_exe().expect("this program has a path");
@@ -180,25 +156,42 @@ fn tool() -> PathBuf {
     tool
 }
 
-/// Measures audit and judge.
-pub fn run() {
-    println!(
-        "\n{:<52}{:>17}{:>17}{:>17}{:>17}{:>17}",
-        format!("processes: shortest and median of {RUNS} runs, ms"),
-        "tool",
-        "its calls",
-        "ratio",
-        "no call",
-        "calls alone"
-    );
-    let folder = Folder::new();
-    let image = folder.put("station.dsk", station(1).image());
-    measure("audit, RL02, 2,000 files, 50 directories", "audit", &image);
-    measure("judge, the same", "judge", &image);
-    let image = folder.put("homes.dsk", &large_volume(largest_plan()).image);
-    let name = "judge, 1,044,480 blocks, 4,079 homes passed over";
-    measure(name, "judge", &image);
-    fs::remove_file(image).expect("the image can be removed");
-    let image = folder.put("headers.dsk", &volumes_to_judge::largest().image);
-    measure("judge, 1,044,480 blocks, 28,910 headers", "judge", &image);
+/// A line: what it is called, the verb, and who makes the image.
+type Line = (&'static str, &'static str, fn() -> Vec<u8>);
+
+const LINES: [Line; 4] = [
+    ("audit, RL02, 2,000 files, 50 directories", "audit", rl02),
+    ("judge, RL02, 2,000 files, 50 directories", "judge", rl02),
+    (
+        "judge, 1,044,480 blocks, 4,079 homes passed over",
+        "judge",
+        || large_volume(largest_plan()).image,
+    ),
+    ("judge, 1,044,480 blocks, 28,910 headers", "judge", || {
+        volumes_to_judge::largest().image
+    }),
+];
+
+/// A station's disk.
+fn rl02() -> Vec<u8> {
+    station(1).volume.image
+}
+
+/// Measures the lines whose name has a word.
+pub fn run(word: &str) {
+    let folder = Folder::new("images");
+    let lines = LINES.iter().filter(|(name, ..)| name.contains(word));
+    for (place, (name, verb, make)) in lines.enumerate() {
+        if place == 0 {
+            print_head(&["tool", "its calls", "ratio", "no call", "calls alone"]);
+        }
+        measure(name, verb, &folder.put("volume.dsk", &make()));
+    }
+}
+
+/// Prints what stands above lines.
+fn print_head(columns: &[&str]) {
+    let name = format!("processes: shortest and median of {RUNS} runs, ms");
+    let columns: String = columns.iter().map(|it| format!("{it:>17}")).collect();
+    println!("\n{name:<52}{columns}");
 }

@@ -12,7 +12,7 @@ const RUN: u64 = 26;
 const NONUMBER: u64 = 27;
 
 /// The two work areas.
-pub type Areas<'a> = (&'a mut [u8], &'a mut [u8]);
+type Areas<'a> = (&'a mut [u8], &'a mut [u8]);
 
 /// Writes an answer.
 fn put(answer: &mut Answer, result: Result<[u32; 3], Placed>) {
@@ -70,10 +70,11 @@ pub fn create(
     image: &mut [u8],
     name: [u16; 5],
     words: (u16, u16),
-    areas: Areas,
+    blocks: &mut [u8],
+    headers: &mut [u8],
     answer: &mut Answer,
 ) {
-    put(answer, try_create(image, name, words, areas));
+    put(answer, try_create(image, name, words, (blocks, headers)));
 }
 
 fn try_create(
@@ -162,8 +163,15 @@ impl Volume<'_> {
 
 /// As `ods1_extend`.
 #[inline(never)]
-pub fn extend(image: &mut [u8], id: [u16; 3], count: u32, areas: Areas, answer: &mut Answer) {
-    put(answer, try_extend(image, id, count, areas));
+pub fn extend(
+    image: &mut [u8],
+    id: [u16; 3],
+    count: u32,
+    blocks: &mut [u8],
+    headers: &mut [u8],
+    answer: &mut Answer,
+) {
+    put(answer, try_extend(image, id, count, (blocks, headers)));
 }
 
 fn try_extend(
@@ -205,8 +213,14 @@ fn try_extend(
 
 /// As `ods1_delete`.
 #[inline(never)]
-pub fn delete(image: &mut [u8], id: [u16; 3], areas: Areas, answer: &mut Answer) {
-    put(answer, try_delete(image, id, areas));
+pub fn delete(
+    image: &mut [u8],
+    id: [u16; 3],
+    blocks: &mut [u8],
+    headers: &mut [u8],
+    answer: &mut Answer,
+) {
+    put(answer, try_delete(image, id, (blocks, headers)));
 }
 
 fn try_delete(image: &mut [u8], id: [u16; 3], areas: Areas) -> Result<[u32; 3], Placed> {
@@ -279,11 +293,11 @@ mod tests {
         };
         let which = random.below(3);
         let mut answer = [u64::MAX; 12];
-        let (image, areas) = (&mut plain.0[..], (&mut plain.1[..], &mut plain.2[..]));
+        let (image, blocks, headers) = (&mut plain.0[..], &mut plain.1[..], &mut plain.2[..]);
         match which {
-            0 => create(image, name, words, areas, &mut answer),
-            1 => extend(image, id, count, areas, &mut answer),
-            _ => delete(image, id, areas, &mut answer),
+            0 => create(image, name, words, blocks, headers, &mut answer),
+            1 => extend(image, id, count, blocks, headers, &mut answer),
+            _ => delete(image, id, blocks, headers, &mut answer),
         }
         let (image, blocks, headers) = (&mut model.0[..], &mut model.1[..], &mut model.2[..]);
         let (id, name) = (Id::from_words(id), Name::from_words(name));
