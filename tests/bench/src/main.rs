@@ -12,8 +12,8 @@
 //! loaded as shared objects ([`loaded`]). A line gives the ratio new/old, with bounds of what chance alone
 //! makes of it, and new/Rust; `bench against SAME.a SAME.a` shows what else is in it.
 //!
-//! At the end the tool is measured against the calls that it makes ([`tool`]); `bench tool` does that
-//! alone.
+//! At the end the tool is measured against the calls that it makes ([`tool`]), and against e2fsck
+//! ([`ext2`]); `bench tool` does that alone.
 //!
 //! With `--only WORD` a run has only the lines whose name has the word.
 //!
@@ -24,8 +24,10 @@
 
 mod calls;
 mod changes;
+mod ext2;
 mod facts;
 mod folder;
+mod hub;
 mod judging;
 mod loaded;
 mod plain;
@@ -104,6 +106,7 @@ fn measure_calls(run: &Run) {
     facts::measure(run);
     measure_verdicts(run);
     measure_changes(run);
+    hub::measure(run);
     judging::measure_sizes(run);
 }
 

@@ -14,14 +14,15 @@ use std::time::{Duration, Instant};
 
 use memmap2::Mmap;
 use ods1::{FileId, Refusal, WorkAreas};
+use volumes::hub::{hub, Hub};
 use volumes::large::{large_volume, largest_plan};
 use volumes::station::station;
 
 use crate::folder::Folder;
-use crate::volumes_to_judge;
+use crate::{ext2, volumes_to_judge};
 
 /// How often each process is run.
-const RUNS: usize = 41;
+pub const RUNS: usize = 41;
 
 /// The system flag of a directory, in the word of both flags.
 const DIRECTORY_FLAG: u16 = 32 << 8;
@@ -79,13 +80,13 @@ fn map(file: &File) -> Mmap {
 }
 
 /// The shortest and the median time.
-struct Times {
+pub struct Times {
     least: Duration,
     median: Duration,
 }
 
 impl Times {
-    fn of(mut times: Vec<Duration>) -> Times {
+    pub fn of(mut times: Vec<Duration>) -> Times {
         times.sort_unstable();
         Times {
             least: times[0],
@@ -94,14 +95,14 @@ impl Times {
     }
 
     /// Both in milliseconds.
-    fn text(&self) -> String {
+    pub fn text(&self) -> String {
         let milliseconds = |time: Duration| time.as_secs_f64() * 1e3;
         let (least, median) = (milliseconds(self.least), milliseconds(self.median));
         format!("{least:>9.2} {median:>7.2}")
     }
 
     /// How many times the others both are.
-    fn ratios(&self, other: &Times) -> String {
+    pub fn ratios(&self, other: &Times) -> String {
         let ratio = |time: Duration, other: Duration| time.as_secs_f64() / other.as_secs_f64();
         let least = ratio(self.least, other.least);
         let median = ratio(self.median, other.median);
@@ -110,7 +111,7 @@ impl Times {
 }
 
 /// Runs a process to its end, which is good, with its standard output into a file. Answers how long it took.
-fn time(command: &mut Command, out: &Path) -> Duration {
+pub fn time(command: &mut Command, out: &Path) -> Duration {
     let file = File::create(out).expect("a file can be written");
     command.stdout(file);
     let started = Instant::now();
@@ -149,7 +150,7 @@ fn measure(name: &str, verb: &str, image: &Path) {
 }
 
 /// The tool, which lies beside this program where make bench has built it.
-fn tool() -> PathBuf {
+pub fn tool() -> PathBuf {
     let this = std::env::current_exe().expect("this program has a path");
     let tool = this.with_file_name("ods1");
     assert!(tool.is_file(), "the tool is not built: run make bench");
@@ -159,7 +160,7 @@ fn tool() -> PathBuf {
 /// A line: what it is called, the verb, and who makes the image.
 type Line = (&'static str, &'static str, fn() -> Vec<u8>);
 
-const LINES: [Line; 4] = [
+const LINES: [Line; 5] = [
     ("audit, RL02, 2,000 files, 50 directories", "audit", rl02),
     ("judge, RL02, 2,000 files, 50 directories", "judge", rl02),
     (
@@ -170,11 +171,17 @@ const LINES: [Line; 4] = [
     ("judge, 1,044,480 blocks, 28,910 headers", "judge", || {
         volumes_to_judge::largest().image
     }),
+    ("judge, full hub, 65,535 headers", "judge", full_hub),
 ];
 
 /// A station's disk.
 fn rl02() -> Vec<u8> {
     station(1).volume.image
+}
+
+/// The largest disk with all numbers in use.
+fn full_hub() -> Vec<u8> {
+    hub(&Hub::FULL).image
 }
 
 /// Measures the lines whose name has a word.
@@ -186,6 +193,10 @@ pub fn run(word: &str) {
             print_head(&["tool", "its calls", "ratio", "no call", "calls alone"]);
         }
         measure(name, verb, &folder.put("volume.dsk", &make()));
+    }
+    if ext2::NAME.contains(word) {
+        print_head(&["tool, judge", "e2fsck -fn", "ratio"]);
+        ext2::measure(&folder, &folder.put("volume.dsk", &full_hub()));
     }
 }
 

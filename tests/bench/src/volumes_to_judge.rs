@@ -3,7 +3,7 @@
 //!
 //! An index file of one header maps at most 113 pointers of 256 blocks, 28,928 blocks. Of these two
 //! are the boot block and the home and 16 are the index map of H.FMAX 65,535, so that 28,910 numbers
-//! have slots. The volumes here have such an index file.
+//! have slots. The volumes here have such an index file; those of [`crate::hub`] have more headers in use.
 
 use volumes::header::{pointers_of, Areas, Header, Pointer};
 use volumes::shapes::{home_positions, MOST_BLOCKS, RL02_BLOCKS};
