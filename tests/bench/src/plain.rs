@@ -793,10 +793,13 @@ impl<'a> Volume<'a> {
 mod tests {
     use super::*;
     use model::{directory, file, verdict, volume, Id, Name, Number, Vbn};
-    use volumes::accident::{random_changes, random_flaws};
-    use volumes::damage::{damages, volumes_to_damage, Checksums};
+    use volumes::accident::{random_changes, random_flaws, random_index_changes};
+    use volumes::damage::{damages, long_index_damages, Checksums};
+    use volumes::damage::{long_volumes_to_damage, volumes_to_damage};
     use volumes::directory::name_words;
-    use volumes::flaw::{each_flawed, volumes_to_judge};
+    use volumes::flaw::{each_flawed, each_flawed_by, long_index_flaws};
+    use volumes::flaw::{long_volumes_to_judge, volumes_to_judge, Flawed};
+    use volumes::long_index::random_long_volume;
     use volumes::shapes::{random_volume, Size};
     use volumes::{Random, Volume};
 
@@ -902,17 +905,52 @@ mod tests {
     }
 
     #[test]
+    fn damaged_index_files_are_answered_as_by_the_model() {
+        let mut met = [0; 29];
+        let volumes = long_volumes_to_damage(11, 4);
+        for damage in long_index_damages() {
+            for sound in &volumes {
+                let mut damaged = sound.clone();
+                if damage.apply(&mut damaged, Checksums::PutRight).is_some() {
+                    expect_image(&mut met, sound, &damaged.image);
+                }
+            }
+        }
+        for seed in 0..500 {
+            let mut random = Random::new(seed);
+            let sound = random_long_volume(&mut random, Size::Small);
+            expect_image(&mut met, &sound, &sound.image);
+            let mut damaged = sound.clone();
+            random_index_changes(&mut random, &mut damaged);
+            expect_image(&mut met, &sound, &damaged.image);
+        }
+        expect_met(&met, 0..=0);
+        expect_met(&met, 4..=4);
+    }
+
+    /// Sees that a flaw is judged as by the model, with areas longer than they must be.
+    fn expect_flaw(met: &mut Met, flawed: &Flawed) {
+        let plan = &flawed.sound.plan;
+        let areas = (plan.blocks as usize + 1, usize::from(plan.h_fmax) + 1);
+        expect_verdict(met, &flawed.changed.image, areas);
+    }
+
+    #[test]
     fn flaws_are_judged_as_by_the_model() {
         let mut met = [0; 29];
         let volumes = volumes_to_judge(12, 6);
-        each_flawed(&volumes[..9], |flawed| {
-            let plan = &flawed.sound.plan;
-            let areas = (plan.blocks as usize + 1, usize::from(plan.h_fmax) + 1);
-            expect_verdict(&mut met, &flawed.changed.image, areas);
+        each_flawed(&volumes[..9], |flawed| expect_flaw(&mut met, &flawed));
+        let volumes = long_volumes_to_judge(12, 6);
+        each_flawed_by(&long_index_flaws(), &volumes, |flawed| {
+            expect_flaw(&mut met, &flawed);
         });
         for seed in 0..1_000 {
             let mut random = Random::new(seed);
-            let mut changed = random_volume(&mut random, Size::Small);
+            let mut changed = if random.once_in(2) {
+                random_volume(&mut random, Size::Small)
+            } else {
+                random_long_volume(&mut random, Size::Small)
+            };
             random_flaws(&mut random, &mut changed);
             let (blocks, h_fmax) = (changed.plan.blocks as usize, changed.plan.h_fmax.into());
             expect_verdict(&mut met, &changed.image, (blocks, h_fmax));

@@ -230,6 +230,7 @@ mod tests {
     use model::{self, FileNumber, Id, Lbn, Vbn};
     use volumes::accident::random_changes;
     use volumes::damage::{damages, volumes_to_damage, Checksums};
+    use volumes::long_index::random_long_volume;
     use volumes::shapes::{random_volume, Size};
     use volumes::Random;
 
@@ -302,7 +303,11 @@ mod tests {
         }
         for seed in 0..200 {
             let mut random = Random::new(seed);
-            let sound = random_volume(&mut random, Size::Small);
+            let sound = if random.once_in(2) {
+                random_volume(&mut random, Size::Small)
+            } else {
+                random_long_volume(&mut random, Size::Small)
+            };
             expect_image(&mut met, &sound, &sound.image);
             let mut damaged = sound.clone();
             random_changes(&mut random, &mut damaged);

@@ -263,6 +263,7 @@ mod tests {
     use super::*;
     use model::{writing, Id, Name};
     use volumes::directory::name_words;
+    use volumes::long_index::random_long_volume_to_write;
     use volumes::shapes::Size;
     use volumes::writable::random_volume_to_write;
     use volumes::Random;
@@ -315,7 +316,11 @@ mod tests {
         let mut met: Met = [0; 29];
         for seed in 0..400 {
             let mut random = Random::new(seed);
-            let volume = random_volume_to_write(&mut random, Size::Small);
+            let volume = if random.once_in(2) {
+                random_volume_to_write(&mut random, Size::Small)
+            } else {
+                random_long_volume_to_write(&mut random, Size::Small)
+            };
             let headers = volume.headers();
             let mut ids: Vec<[u16; 3]> = headers.map(|it| [it.number, it.sequence, 0]).collect();
             let mut image = volume.image.clone();
