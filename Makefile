@@ -1,9 +1,15 @@
 # What can be made here. `make` alone tells the same.
 
-.PHONY: help setup tool judge test bench install
+.PHONY: help setup tool judge test bench bench-against install
 
 # What is judged.
 IMAGE = samples/volume-v.dsk
+
+# A word that the lines to measure have; none for all.
+ONLY =
+
+# Another build of the library, to measure against.
+OLD =
 
 # Where the tool is installed.
 PREFIX = /usr/local
@@ -22,6 +28,9 @@ help:
 	@echo 'make tool             build the tool, $(TOOL)'
 	@echo 'make install          install it with its man page and completions below PREFIX, $(PREFIX)'
 	@echo 'make bench            measure the exported calls against plain Rust, and the tool against its calls'
+	@echo '                      and against e2fsck; with ONLY=WORD the lines that have the word'
+	@echo 'make bench-against OLD=FILE'
+	@echo '                      measure them against another build of the library, the archive FILE'
 	@echo 'make setup            install what is missing of what these build with'
 
 setup:
@@ -41,8 +50,15 @@ judge: tool
 test: setup
 	@scripts/test.sh
 
+BENCH = $(CARGO) run --release --offline --locked -p bench --
+LINES = $(if $(ONLY),--only '$(ONLY)')
+
 bench: tool
-	$(CARGO) run --release --offline --locked -p bench
+	$(BENCH) $(LINES)
+
+bench-against: setup $(LIBRARY)
+	@test -n '$(OLD)' || { echo 'make bench-against: OLD=FILE is wanted, a libods1.a' >&2; exit 1; }
+	$(BENCH) against '$(OLD)' $(LINES)
 
 install: tool
 	install -D -m 755 $(TOOL) '$(DESTDIR)$(PREFIX)/bin/ods1'

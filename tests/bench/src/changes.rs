@@ -1,73 +1,58 @@
-//! A mix of create, extend and delete on a volume. Each side has an image of its own, which goes on
-//! from call to call and from round to round; a round leaves the free blocks and numbers as it found
-//! them, and the slots with higher sequences. Images, marks and answers of both sides are compared.
+//! A mix of create, extend and delete on a volume. There is an image for each side, which goes on from
+//! call to call and from round to round, and all images are always the same: in each turn every side
+//! makes the same call, on another image each. A round leaves the free blocks and numbers as it found
+//! them, and the slots with higher sequences. Images, marks and answers of all sides are compared.
 
-use crate::plain::{writing, Answer};
-use crate::{answer_of, mix, Case};
-use ods1::words;
+use crate::calls::{answer_of, Calls};
+use crate::plain::Answer;
+use crate::table::Line;
+use crate::turns::{measure, Side, Turn, Worker, BUDGET};
 use std::cell::RefCell;
-use std::hint::black_box;
 use volumes::volume_v::READS;
 use volumes::Volume;
 
-/// A call that changes an image.
+/// A call that changes an image: it creates, extends by a count or deletes the first, second or third
+/// file of a round.
 #[derive(Clone, Copy)]
 enum Call {
-    Create,
-    Extend([u16; 3], u32),
-    Delete([u16; 3]),
+    Create(usize),
+    Extend(usize, u32),
+    Delete(usize),
 }
+
+/// The calls of a round.
+const CALLS: [Call; 10] = [
+    Call::Create(0),
+    Call::Create(1),
+    Call::Extend(0, 1),
+    Call::Extend(1, 256),
+    Call::Extend(0, 100),
+    Call::Delete(0),
+    Call::Create(2),
+    Call::Extend(2, 2),
+    Call::Delete(1),
+    Call::Delete(2),
+];
 
 /// Owner and protection of the files that are created.
 const WORDS: (u16, u16) = (0x0101, 0xe000);
 
-/// What a side works on, and a number that depends on all its answers.
+/// What a side works on, and a number that depends on all answers so far.
 #[derive(PartialEq, Eq)]
 struct Desk {
     image: Vec<u8>,
     blocks: Vec<u8>,
     headers: Vec<u8>,
+    /// The IDs of the three files of a round.
+    ids: [[u16; 3]; 3],
     sum: u64,
 }
 
-/// How a side makes a call.
-type Side = fn(&mut Desk, Call) -> Answer;
-
-/// A call of the library.
-fn by_library(desk: &mut Desk, call: Call) -> Answer {
-    let Desk {
-        image,
-        blocks,
-        headers,
-        ..
-    } = desk;
-    let image = black_box(&mut image[..]);
-    match call {
-        Call::Create => {
-            answer_of(|answer| words::create(image, READS, WORDS, blocks, headers, answer))
-        }
-        Call::Extend(id, count) => {
-            answer_of(|answer| words::extend(image, id, count, blocks, headers, answer))
-        }
-        Call::Delete(id) => answer_of(|answer| words::delete(image, id, blocks, headers, answer)),
-    }
-}
-
-/// A call of plain Rust.
-fn by_plain(desk: &mut Desk, call: Call) -> Answer {
-    let Desk {
-        image,
-        blocks,
-        headers,
-        ..
-    } = desk;
-    let image = black_box(&mut image[..]);
-    let areas = (&mut blocks[..], &mut headers[..]);
-    answer_of(|answer| match call {
-        Call::Create => writing::create(image, READS, WORDS, areas, answer),
-        Call::Extend(id, count) => writing::extend(image, id, count, areas, answer),
-        Call::Delete(id) => writing::delete(image, id, areas, answer),
-    })
+/// A number that depends on all words of an answer.
+fn mix(sum: u64, answer: &Answer) -> u64 {
+    answer
+        .iter()
+        .fold(sum, |sum, &word| sum.rotate_left(7).wrapping_add(word))
 }
 
 impl Desk {
@@ -76,53 +61,60 @@ impl Desk {
             blocks: vec![0; volume.plan.blocks as usize],
             headers: vec![0; volume.plan.h_fmax.into()],
             image: volume.image,
+            ids: [[0; 3]; 3],
             sum: 0,
         }
     }
 
-    /// Makes a call, which is not refused, and answers the first three words of its value.
-    fn make(&mut self, side: Side, call: Call) -> [u16; 3] {
-        let answer = side(self, call);
+    /// Makes a call, which is not refused.
+    fn make(&mut self, side: &dyn Calls, call: Call) {
+        let Desk {
+            image,
+            blocks,
+            headers,
+            ids,
+            ..
+        } = self;
+        let answer = answer_of(|answer| match call {
+            Call::Create(_) => side.create(image, READS, WORDS, blocks, headers, answer),
+            Call::Extend(file, count) => {
+                side.extend(image, ids[file], count, blocks, headers, answer);
+            }
+            Call::Delete(file) => side.delete(image, ids[file], blocks, headers, answer),
+        });
         assert!(answer[0] == 0, "the call is refused: {}", answer[0]);
+        if let Call::Create(file) = call {
+            ids[file] = [answer[2], answer[3], answer[4]].map(|word| word as u16);
+        }
         self.sum = mix(self.sum, &answer);
-        [answer[2], answer[3], answer[4]].map(|word| word as u16)
-    }
-
-    /// Three files are created, extended and deleted: the calls of a round.
-    fn round(&mut self, side: Side) {
-        let first = self.make(side, Call::Create);
-        let second = self.make(side, Call::Create);
-        self.make(side, Call::Extend(first, 1));
-        self.make(side, Call::Extend(second, 256));
-        self.make(side, Call::Extend(first, 100));
-        self.make(side, Call::Delete(first));
-        let third = self.make(side, Call::Create);
-        self.make(side, Call::Extend(third, 2));
-        self.make(side, Call::Delete(second));
-        self.make(side, Call::Delete(third));
     }
 }
 
-/// How many calls a round has.
-const CALLS: u64 = 10;
-
-/// Measures rounds on the volume that `make` makes. It is made twice: a copy of a large one would
-/// take more memory.
-pub fn change(name: &str, make: impl Fn() -> Volume) {
-    let desks = [(), ()].map(|()| RefCell::new(Desk::of(make())));
-    let round = |desk: &RefCell<Desk>, side: Side| {
-        let desk = &mut *desk.borrow_mut();
-        desk.round(side);
-        desk.sum
-    };
-    Case {
-        name,
-        calls: CALLS,
-        library: &|| round(&desks[0], by_library),
-        plain: &|| round(&desks[1], by_plain),
-        bare: None,
+impl Line<'_> {
+    /// Measures rounds on the volume that `make` makes. It is made for each side: a copy of a large one
+    /// would take more memory.
+    pub fn change(&self, make: impl Fn() -> Volume) {
+        let first = Desk::of(make());
+        let sides = self.run.sides_of(&first.image);
+        let others = sides.iter().skip(1).map(|_| Desk::of(make()));
+        let desks: Vec<RefCell<Desk>> = std::iter::once(first)
+            .chain(others)
+            .map(RefCell::new)
+            .collect();
+        let make_call = |side: &Side, turn: Turn| {
+            let call = CALLS[turn.number % CALLS.len()];
+            let mut desk = desks[turn.desk].borrow_mut();
+            desk.make(side.calls(turn), call);
+            1
+        };
+        let make_call = &make_call;
+        let workers = sides.into_iter().map(|side| Worker {
+            role: side.role(),
+            work: Box::new(move |turn| make_call(side, turn)),
+        });
+        let times = measure(workers.collect(), CALLS.len(), BUDGET);
+        let equal = desks.iter().all(|desk| desk == &desks[0]);
+        assert!(equal, "{}: images, marks or answers differ", self.name);
+        self.run.print(self.name, CALLS.len(), &times);
     }
-    .run();
-    let [library, plain] = desks;
-    assert!(library == plain, "{name}: images, marks or answers differ");
 }

@@ -9,18 +9,20 @@ use std::collections::{HashSet, VecDeque};
 use std::fs::{self, File};
 use std::hint::black_box;
 use std::path::{Path, PathBuf};
-use std::process::{id, Command};
+use std::process::Command;
 use std::time::{Duration, Instant};
 
 use memmap2::Mmap;
 use ods1::{FileId, Refusal, WorkAreas};
+use volumes::hub::{hub, Hub};
 use volumes::large::{large_volume, largest_plan};
 use volumes::station::station;
 
-use crate::volumes_to_judge;
+use crate::folder::Folder;
+use crate::{ext2, volumes_to_judge};
 
 /// How often each process is run.
-const RUNS: usize = 41;
+pub const RUNS: usize = 41;
 
 /// The system flag of a directory, in the word of both flags.
 const DIRECTORY_FLAG: u16 = 32 << 8;
@@ -78,13 +80,13 @@ fn map(file: &File) -> Mmap {
 }
 
 /// The shortest and the median time.
-struct Times {
+pub struct Times {
     least: Duration,
     median: Duration,
 }
 
 impl Times {
-    fn of(mut times: Vec<Duration>) -> Times {
+    pub fn of(mut times: Vec<Duration>) -> Times {
         times.sort_unstable();
         Times {
             least: times[0],
@@ -93,14 +95,14 @@ impl Times {
     }
 
     /// Both in milliseconds.
-    fn text(&self) -> String {
+    pub fn text(&self) -> String {
         let milliseconds = |time: Duration| time.as_secs_f64() * 1e3;
         let (least, median) = (milliseconds(self.least), milliseconds(self.median));
         format!("{least:>9.2} {median:>7.2}")
     }
 
     /// How many times the others both are.
-    fn ratios(&self, other: &Times) -> String {
+    pub fn ratios(&self, other: &Times) -> String {
         let ratio = |time: Duration, other: Duration| time.as_secs_f64() / other.as_secs_f64();
         let least = ratio(self.least, other.least);
         let median = ratio(self.median, other.median);
@@ -109,7 +111,7 @@ impl Times {
 }
 
 /// Runs a process to its end, which is good, with its standard output into a file. Answers how long it took.
-fn time(command: &mut Command, out: &Path) -> Duration {
+pub fn time(command: &mut Command, out: &Path) -> Duration {
     let file = File::create(out).expect("a file can be written");
     command.stdout(file);
     let started = Instant::now();
@@ -147,58 +149,60 @@ fn measure(name: &str, verb: &str, image: &Path) {
     );
 }
 
-/// A folder for images, removed when this is dropped.
-struct Folder(PathBuf);
-
-impl Folder {
-    fn new() -> Folder {
-        let path = std::env::temp_dir().join(format!("ods1-bench-{}", id()));
-        fs::create_dir(&path).expect("a folder can be made");
-        Folder(path)
-    }
-
-    /// Writes an image.
-    fn put(&self, name: &str, image: &[u8]) -> PathBuf {
-        let path = self.0.join(name);
-        fs::write(&path, image).expect("an image can be written");
-        path
-    }
-}
-
-impl Drop for Folder {
-    fn drop(&mut self) {
-        // What stays is in the folder of temporary files.
-        let _ = fs::remove_dir_all(&self.0);
-    }
-}
-
 /// The tool, which lies beside this program where make bench has built it.
-fn tool() -> PathBuf {
+pub fn tool() -> PathBuf {
     let this = std::env::current_exe().expect("this program has a path");
     let tool = this.with_file_name("ods1");
     assert!(tool.is_file(), "the tool is not built: run make bench");
     tool
 }
 
-/// Measures audit and judge.
-pub fn run() {
-    println!(
-        "\n{:<52}{:>17}{:>17}{:>17}{:>17}{:>17}",
-        format!("processes: shortest and median of {RUNS} runs, ms"),
-        "tool",
-        "its calls",
-        "ratio",
-        "no call",
-        "calls alone"
-    );
-    let folder = Folder::new();
-    let image = folder.put("station.dsk", station(1).image());
-    measure("audit, RL02, 2,000 files, 50 directories", "audit", &image);
-    measure("judge, the same", "judge", &image);
-    let image = folder.put("homes.dsk", &large_volume(largest_plan()).image);
-    let name = "judge, 1,044,480 blocks, 4,079 homes passed over";
-    measure(name, "judge", &image);
-    fs::remove_file(image).expect("the image can be removed");
-    let image = folder.put("headers.dsk", &volumes_to_judge::largest().image);
-    measure("judge, 1,044,480 blocks, 28,910 headers", "judge", &image);
+/// A line: what it is called, the verb, and who makes the image.
+type Line = (&'static str, &'static str, fn() -> Vec<u8>);
+
+const LINES: [Line; 5] = [
+    ("audit, RL02, 2,000 files, 50 directories", "audit", rl02),
+    ("judge, RL02, 2,000 files, 50 directories", "judge", rl02),
+    (
+        "judge, 1,044,480 blocks, 4,079 homes passed over",
+        "judge",
+        || large_volume(largest_plan()).image,
+    ),
+    ("judge, 1,044,480 blocks, 28,910 headers", "judge", || {
+        volumes_to_judge::largest().image
+    }),
+    ("judge, full hub, 65,535 headers", "judge", full_hub),
+];
+
+/// A station's disk.
+fn rl02() -> Vec<u8> {
+    station(1).volume.image
+}
+
+/// The largest disk with all numbers in use.
+fn full_hub() -> Vec<u8> {
+    hub(&Hub::FULL).image
+}
+
+/// Measures the lines whose name has a word.
+pub fn run(word: &str) {
+    let folder = Folder::new("images");
+    let lines = LINES.iter().filter(|(name, ..)| name.contains(word));
+    for (place, (name, verb, make)) in lines.enumerate() {
+        if place == 0 {
+            print_head(&["tool", "its calls", "ratio", "no call", "calls alone"]);
+        }
+        measure(name, verb, &folder.put("volume.dsk", &make()));
+    }
+    if ext2::NAME.contains(word) {
+        print_head(&["tool, judge", "e2fsck -fn", "ratio"]);
+        ext2::measure(&folder, &folder.put("volume.dsk", &full_hub()));
+    }
+}
+
+/// Prints what stands above lines.
+fn print_head(columns: &[&str]) {
+    let name = format!("processes: shortest and median of {RUNS} runs, ms");
+    let columns: String = columns.iter().map(|it| format!("{it:>17}")).collect();
+    println!("\n{name:<52}{columns}");
 }

@@ -3,8 +3,7 @@
 //!
 //! An index file of one header maps at most 113 pointers of 256 blocks, 28,928 blocks. Of these two
 //! are the boot block and the home and 16 are the index map of H.FMAX 65,535, so that 28,910 numbers
-//! have slots: more headers than that cannot be in use until the index file may have more headers
-//! (02, 9/14).
+//! have slots. The volumes here have such an index file; those of [`crate::hub`] have more headers in use.
 
 use volumes::header::{pointers_of, Areas, Header, Pointer};
 use volumes::shapes::{home_positions, MOST_BLOCKS, RL02_BLOCKS};
@@ -131,7 +130,7 @@ pub fn rl02_with_a_later_home() -> Volume {
     full_volume(plan(RL02_BLOCKS, 512, 2_005, 600, 2_005), RL02_FILES)
 }
 
-/// The largest volume, with as many headers as can be.
+/// The largest volume, with as many headers as an index file of one header has slots for.
 pub fn largest() -> Volume {
     full_volume(plan(MOST_BLOCKS, 1, 65_535, 2, 28_910), LARGEST_FILES)
 }
@@ -164,7 +163,7 @@ pub fn rl02_with_broken_room() -> Volume {
     full_volume(plan(RL02_BLOCKS, 1, 2_105, 2, 2_105), files)
 }
 
-/// The largest volume, with 100 numbers less than can be; after each pointer a block is free.
+/// The largest volume, with 100 numbers less in use; after each pointer a block is free.
 pub fn largest_with_room() -> Volume {
     let files = Files {
         unused: 100,

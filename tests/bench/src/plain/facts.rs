@@ -1,7 +1,7 @@
 //! What a volume, a header and a file say of themselves, and blocks in a row, in plain Rust.
 
-use super::{block, put, word, Answer, Header, Pointers, Refusal, Volume};
-use super::{ABSENT, BLOCK, HEADER, NUMBER, VBN};
+use super::{block, put, word, Answer, Header, Places, Pointers, Refusal, Volume};
+use super::{ABSENT, BLOCK, HEADER, NO_PLACES, NUMBER, VBN};
 
 /// Writes an answer of two values, or a refusal.
 fn put_two(answer: &mut Answer, result: Result<(u32, u32), Refusal>) {
@@ -19,7 +19,8 @@ fn long(bytes: &[u8], at: usize) -> u32 {
 /// As `ods1_geometry`.
 #[inline(never)]
 pub fn geometry(image: &[u8], answer: &mut Answer) {
-    match Volume::open(image) {
+    let mut places = NO_PLACES;
+    match Volume::open(image, &mut places) {
         Ok(volume) => put(answer, Ok(&volume.geometry())),
         Err(number) => put(answer, Err(number)),
     }
@@ -28,7 +29,8 @@ pub fn geometry(image: &[u8], answer: &mut Answer) {
 /// As `ods1_label`.
 #[inline(never)]
 pub fn label(image: &[u8], answer: &mut Answer) {
-    match Volume::open(image) {
+    let mut places = NO_PLACES;
+    match Volume::open(image, &mut places) {
         Ok(volume) => put(answer, Ok(&volume.label())),
         Err(number) => put(answer, Err(number)),
     }
@@ -37,7 +39,8 @@ pub fn label(image: &[u8], answer: &mut Answer) {
 /// As `ods1_header`.
 #[inline(never)]
 pub fn header(image: &[u8], number: u16, answer: &mut Answer) {
-    match seek(image, number) {
+    let mut places = NO_PLACES;
+    match seek(image, &mut places, number) {
         Ok(header) => put(answer, Ok(&header.facts())),
         Err(number) => put(answer, Err(number)),
     }
@@ -50,15 +53,16 @@ pub fn pointer(image: &[u8], number: u16, place: u32, answer: &mut Answer) {
 }
 
 fn pointer_of(image: &[u8], number: u16, place: u32) -> Result<(u32, u32), Refusal> {
-    let header = seek(image, number)?;
+    let mut places = NO_PLACES;
+    let header = seek(image, &mut places, number)?;
     let from = header.pointers().0.get(4 * place as usize..);
     let pointer = Pointers(from.ok_or(ABSENT)?).iter().next();
     pointer.ok_or(ABSENT)
 }
 
 /// The header of a number in use, whoever may open its file.
-fn seek(image: &[u8], number: u16) -> Result<Header<'_>, Refusal> {
-    let volume = Volume::open(image)?;
+fn seek<'a>(image: &'a [u8], places: &'a mut Places, number: u16) -> Result<Header<'a>, Refusal> {
+    let volume = Volume::open(image, places)?;
     let slot = volume.slot(number).ok_or(NUMBER)?;
     Header::whole(slot, number, volume.blocks).ok_or(HEADER)
 }
@@ -66,7 +70,7 @@ fn seek(image: &[u8], number: u16) -> Result<Header<'_>, Refusal> {
 impl Volume<'_> {
     /// Where its parts lie.
     fn geometry(&self) -> [u64; 9] {
-        let slots = self.index.blocks(self.image) - (2 + self.m);
+        let slots = self.index.blocks() - (2 + self.m);
         [
             self.blocks.into(),
             self.home.into(),
@@ -149,7 +153,8 @@ pub fn attributes(image: &[u8], id: [u16; 3], answer: &mut Answer) {
 }
 
 fn describe(image: &[u8], id: [u16; 3]) -> Result<[u64; 10], Refusal> {
-    let volume = Volume::open(image)?;
+    let mut places = NO_PLACES;
+    let volume = Volume::open(image, &mut places)?;
     let mut first = None;
     let mut blocks = 0;
     volume.each_header(id, |header| {
@@ -189,7 +194,8 @@ pub fn extent(image: &[u8], id: [u16; 3], vbn: u32, answer: &mut Answer) {
 }
 
 fn extent_from(image: &[u8], id: [u16; 3], vbn: u32) -> Result<(u32, u32), Refusal> {
-    let volume = Volume::open(image)?;
+    let mut places = NO_PLACES;
+    let volume = Volume::open(image, &mut places)?;
     // VBN 0 becomes the last number of all, which is past every file.
     let mut row = Row::Ahead(vbn.wrapping_sub(1));
     volume.each_header(id, |header| {
@@ -210,7 +216,8 @@ pub fn free_run(image: &[u8], from: u32, answer: &mut Answer) {
 }
 
 fn free_from(image: &[u8], from: u32) -> Result<(u32, u32), Refusal> {
-    let volume = Volume::open(image)?;
+    let mut places = NO_PLACES;
+    let volume = Volume::open(image, &mut places)?;
     let start = volume.next_bit(1, from).ok_or(ABSENT)?;
     let end = volume.next_bit(0, start).unwrap_or(volume.blocks);
     Ok((start, end - start))
@@ -223,6 +230,7 @@ mod tests {
     use model::{self, FileNumber, Id, Lbn, Vbn};
     use volumes::accident::random_changes;
     use volumes::damage::{damages, volumes_to_damage, Checksums};
+    use volumes::long_index::random_long_volume;
     use volumes::shapes::{random_volume, Size};
     use volumes::Random;
 
@@ -295,7 +303,11 @@ mod tests {
         }
         for seed in 0..200 {
             let mut random = Random::new(seed);
-            let sound = random_volume(&mut random, Size::Small);
+            let sound = if random.once_in(2) {
+                random_volume(&mut random, Size::Small)
+            } else {
+                random_long_volume(&mut random, Size::Small)
+            };
             expect_image(&mut met, &sound, &sound.image);
             let mut damaged = sound.clone();
             random_changes(&mut random, &mut damaged);

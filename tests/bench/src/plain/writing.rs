@@ -1,8 +1,8 @@
 //! Create, extend and delete in plain Rust. The volume is judged first, without the four counts of
 //! the verdict, which these calls do not answer.
 
-use super::{block, is_proper, judged, sum, word, Answer, Header, Placed, Volume, BLOCK};
-use super::{LOCKED, NAME, NUMBER, RELVOL, SEGMENT, SEQUENCE};
+use super::{block, is_proper, judged, sum, word, Answer, Header, Index, Placed, Volume, BLOCK};
+use super::{LOCKED, NAME, NO_PLACES, NUMBER, RELVOL, SEGMENT, SEQUENCE};
 
 const KNOWN: u64 = 22;
 const FIXED: u64 = 23;
@@ -12,7 +12,7 @@ const RUN: u64 = 26;
 const NONUMBER: u64 = 27;
 
 /// The two work areas.
-pub type Areas<'a> = (&'a mut [u8], &'a mut [u8]);
+type Areas<'a> = (&'a mut [u8], &'a mut [u8]);
 
 /// Writes an answer.
 fn put(answer: &mut Answer, result: Result<[u32; 3], Placed>) {
@@ -70,10 +70,11 @@ pub fn create(
     image: &mut [u8],
     name: [u16; 5],
     words: (u16, u16),
-    areas: Areas,
+    blocks: &mut [u8],
+    headers: &mut [u8],
     answer: &mut Answer,
 ) {
-    put(answer, try_create(image, name, words, areas));
+    put(answer, try_create(image, name, words, (blocks, headers)));
 }
 
 fn try_create(
@@ -82,7 +83,8 @@ fn try_create(
     (owner, protection): (u16, u16),
     areas: Areas,
 ) -> Result<[u32; 3], Placed> {
-    let volume = judged(image, areas.0, areas.1)?;
+    let mut places = NO_PLACES;
+    let volume = judged(image, &mut places, areas.0, areas.1)?;
     if !is_proper(name) {
         return Err((NAME, 0));
     }
@@ -161,8 +163,15 @@ impl Volume<'_> {
 
 /// As `ods1_extend`.
 #[inline(never)]
-pub fn extend(image: &mut [u8], id: [u16; 3], count: u32, areas: Areas, answer: &mut Answer) {
-    put(answer, try_extend(image, id, count, areas));
+pub fn extend(
+    image: &mut [u8],
+    id: [u16; 3],
+    count: u32,
+    blocks: &mut [u8],
+    headers: &mut [u8],
+    answer: &mut Answer,
+) {
+    put(answer, try_extend(image, id, count, (blocks, headers)));
 }
 
 fn try_extend(
@@ -171,7 +180,8 @@ fn try_extend(
     count: u32,
     areas: Areas,
 ) -> Result<[u32; 3], Placed> {
-    let volume = judged(image, areas.0, areas.1)?;
+    let mut places = NO_PLACES;
+    let volume = judged(image, &mut places, areas.0, areas.1)?;
     let mut lbn = volume.slot_to_change(id)?;
     if block(image, lbn)[12] & 128 != 0 {
         return Err((FIXED, 0));
@@ -203,23 +213,33 @@ fn try_extend(
 
 /// As `ods1_delete`.
 #[inline(never)]
-pub fn delete(image: &mut [u8], id: [u16; 3], areas: Areas, answer: &mut Answer) {
-    put(answer, try_delete(image, id, areas));
+pub fn delete(
+    image: &mut [u8],
+    id: [u16; 3],
+    blocks: &mut [u8],
+    headers: &mut [u8],
+    answer: &mut Answer,
+) {
+    put(answer, try_delete(image, id, (blocks, headers)));
 }
 
 fn try_delete(image: &mut [u8], id: [u16; 3], areas: Areas) -> Result<[u32; 3], Placed> {
-    let volume = judged(image, areas.0, areas.1)?;
+    let mut places = NO_PLACES;
+    let volume = judged(image, &mut places, areas.0, areas.1)?;
     let mut slot = volume.slot_to_change(id)?;
     let maps = (Map(volume.h_iblb), Map(volume.bits));
-    // The index file keeps its headers, so that slots are found after some are cleared.
-    let index = volume.index;
-    let m = volume.m;
+    let (m, headers) = (volume.m, volume.index.places.len());
     loop {
         let next = remove(image, slot, maps);
         if next == 0 {
             return Ok([0; 3]);
         }
-        let lbn = index.lbn(image, 1 + m + u32::from(next));
+        // The index file keeps its headers, so that slots are found after some are cleared.
+        let index = Index {
+            image,
+            places: &places[..headers],
+        };
+        let lbn = index.lbn(1 + m + u32::from(next));
         slot = lbn.expect("FILES passed");
     }
 }
@@ -274,11 +294,11 @@ mod tests {
         };
         let which = random.below(3);
         let mut answer = [u64::MAX; 12];
-        let (image, areas) = (&mut plain.0[..], (&mut plain.1[..], &mut plain.2[..]));
+        let (image, blocks, headers) = (&mut plain.0[..], &mut plain.1[..], &mut plain.2[..]);
         match which {
-            0 => create(image, name, words, areas, &mut answer),
-            1 => extend(image, id, count, areas, &mut answer),
-            _ => delete(image, id, areas, &mut answer),
+            0 => create(image, name, words, blocks, headers, &mut answer),
+            1 => extend(image, id, count, blocks, headers, &mut answer),
+            _ => delete(image, id, blocks, headers, &mut answer),
         }
         let (image, blocks, headers) = (&mut model.0[..], &mut model.1[..], &mut model.2[..]);
         let (id, name) = (Id::from_words(id), Name::from_words(name));
@@ -296,9 +316,10 @@ mod tests {
         let mut met: Met = [0; 29];
         for seed in 0..400 {
             let mut random = Random::new(seed);
-            let volume = match seed % 4 {
-                0 => random_long_volume_to_write(&mut random, Size::Small),
-                _ => random_volume_to_write(&mut random, Size::Small),
+            let volume = if random.once_in(2) {
+                random_volume_to_write(&mut random, Size::Small)
+            } else {
+                random_long_volume_to_write(&mut random, Size::Small)
             };
             let headers = volume.headers();
             let mut ids: Vec<[u16; 3]> = headers.map(|it| [it.number, it.sequence, 0]).collect();
