@@ -162,6 +162,7 @@ impl Subject<'_> {
             plan.storage_map,
             plan.storage_map_blocks(),
             plan.h_vlev.into(),
+            volume.file(1).headers.len() as u32,
         ];
         self.expect_words(run, Call::Geometry, &geometry.map(u64::from));
         if let Some(label) = volume.label {

@@ -25,7 +25,7 @@ fn id(number: u16, sequence: u16) -> Id {
 fn done() -> Vec<(Call, &'static [u64])> {
     let file_6 = id(6, 9);
     vec![
-        (Call::Geometry, &[100, 1, 1, 2, 16, 16, 20, 1, 257]),
+        (Call::Geometry, &[100, 1, 1, 2, 16, 16, 20, 1, 257, 1]),
         (Call::Label, &[]),
         (Call::Header(1), &[1, 0, 0, 0, 1]),
         (Call::Header(5), &[5]),

@@ -225,7 +225,7 @@ fn the_longest_index_file() {
         let subject = Subject { image, story: &[] };
         let m = 16;
         let slots = u64::from(blocks) - 2 - m;
-        let geometry = [700, 1, m, 300, 65_535, slots, 691, 1, 257];
+        let geometry = [700, 1, m, 300, 65_535, slots, 691, 1, 257, 256];
         subject.expect_words(run, Call::Geometry, &geometry);
         subject.expect_words(run, Call::OpenFile(index), &[u64::from(blocks)]);
         subject.expect_words(run, Call::Map(index, blocks), &[257]);

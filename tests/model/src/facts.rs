@@ -13,9 +13,10 @@ fn words_at(bytes: &[u8], at: usize, count: usize) -> impl Iterator<Item = u64> 
 }
 
 /// Where the parts of a volume lie: N, the home LBN, H.IBSZ, H.IBLB, H.FMAX, how many numbers have a
-/// slot, the LBN of the storage map's first block of bits, q and H.VLEV. Paper 01, "The volume": "m =
-/// H.IBSZ = H.FMAX/4096 rounded up", "The slot of file n is VBN 2+m+n; past the mapped blocks n has no
-/// slot.", "Byte 3 of its first block is q; .. Then q blocks of bits", "H.VLEV 12".
+/// slot, the LBN of the storage map's first block of bits, q, H.VLEV, and how many headers the index
+/// file has. Paper 01, "The volume": "m = H.IBSZ = H.FMAX/4096 rounded up", "The slot of file n is VBN
+/// 2+m+n; past the mapped blocks n has no slot.", "Byte 3 of its first block is q; .. Then q blocks of
+/// bits", "H.VLEV 12". Paper 02, 9/14: "all headers in the chain of file 1".
 fn geometry_words(volume: &Volume) -> Vec<u64> {
     let bits = volume.storage_map_lbns();
     vec![
@@ -28,6 +29,7 @@ fn geometry_words(volume: &Volume) -> Vec<u64> {
         bits[0].0,
         bits.len() as u64,
         word(volume.home_block(), 12),
+        volume.index_headers(),
     ]
 }
 
@@ -121,7 +123,7 @@ mod tests {
     fn geometry_of_volume_v() {
         // Paper 01, "Volume V": "N 100, home 1, H.FMAX 16, m 1, H.IBLB 2. Header 1 covers 0–18; 2:
         // 19–20".
-        let words = [100, 1, 1, 2, 16, 16, 20, 1, 257];
+        let words = [100, 1, 1, 2, 16, 16, 20, 1, 257, 1];
         assert_eq!(geometry(VOLUME_V), Answer::done(&words));
     }
 

@@ -20,6 +20,8 @@ pub struct Volume<'a> {
     home: Home,
     /// The pointers of all headers in the chain of file 1, in order.
     index: Vec<Pointer>,
+    /// How many headers that chain has.
+    index_headers: u64,
 }
 
 /// The home block: where it is, and its fields that later rules use.
@@ -122,10 +124,12 @@ fn with_index(image: Image, home: Home) -> Result<Volume, BadIndex> {
         image,
         home,
         index: header_1.pointers(),
+        index_headers: 1,
     };
     let mut last = header_1;
     while let Some(next) = part.next_header(last).map_err(BadIndex::Link)? {
         part.index.extend(next.pointers());
+        part.index_headers += 1;
         last = next;
     }
     Ok(part)
@@ -251,6 +255,11 @@ impl<'a> Volume<'a> {
     pub fn slots(&self) -> u64 {
         let m = self.home.h_ibsz;
         blocks_of(&self.index) - (2 + m)
+    }
+
+    /// How many headers the index file has. Paper 02, 9/14: "all headers in the chain of file 1".
+    pub fn index_headers(&self) -> u64 {
+        self.index_headers
     }
 
     /// The LBNs of the blocks of bits of the storage map file. Paper 01, "The volume": "Byte 3 of its

@@ -69,7 +69,7 @@ fn seek<'a>(image: &'a [u8], places: &'a mut Places, number: u16) -> Result<Head
 
 impl Volume<'_> {
     /// Where its parts lie.
-    fn geometry(&self) -> [u64; 9] {
+    fn geometry(&self) -> [u64; 10] {
         let slots = self.index.blocks() - (2 + self.m);
         [
             self.blocks.into(),
@@ -81,6 +81,7 @@ impl Volume<'_> {
             self.bits.into(),
             self.blocks.div_ceil(4_096).into(),
             word(block(self.image, self.home), 12).into(),
+            self.index.places.len() as u64,
         ]
     }
 
