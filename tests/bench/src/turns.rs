@@ -71,6 +71,10 @@ impl Side {
         &*self.copies[place % many]
     }
 
+    pub fn is_old(&self) -> bool {
+        self.role == Role::Old
+    }
+
     /// Who makes a call that is not measured.
     pub fn any(&self) -> &dyn Calls {
         &*self.copies[0]
