@@ -14,7 +14,7 @@ use Rattle.answer.specs.declared.outcome.Outcome.the-variants.{Passed}
 use Rattle.header.specs.Pointers.{Fits, blocksOf}
 use Rattle.header.specs.Whole.{fault}
 use Rattle.header.proofs.WholeLaws.{whole-is, whole-fits, whole-inside}
-use Rattle.volume.specs.Home.{blocks}
+use Rattle.home.specs.Home.{blocks}
 use Rattle.volume.specs.Volume.{fmax, hasSlot, header, faultOf, inUse, isNumber}
 use Rattle.volume.specs.Opening.{openVolume}
 use Rattle.volume.proofs.VolumeLaws.{opens, header-length}

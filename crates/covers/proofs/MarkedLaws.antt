@@ -15,9 +15,9 @@ use Rattle.image.proofs.First.{first-same, first-has}
 use Rattle.answer.specs.declared.refusal.Refusal.the-variants as refusal
 use Rattle.answer.specs.declared.outcome.Outcome.the-variants.{Passed}
 use Rattle.answer.proofs.OutcomeLaws.{passed-last}
-use Rattle.volume.specs.Home.{blocks, position, positions, homeIndex, home}
+use Rattle.home.specs.Home.{blocks, position, positions, homeIndex, home}
 use Rattle.volume.specs.Volume.{storageMap}
-use Rattle.volume.proofs.HomeLaws.{position-first, position-later, position-below}
+use Rattle.home.proofs.HomeLaws.{position-first, position-later, position-below}
 use Rattle.volume.proofs.VolumeLaws.{Opens}
 use Rattle.file.specs.Chains.{fileBlocks}
 use Rattle.marks.specs.Counts.{oneIf, count, In}

@@ -11,7 +11,7 @@ use Rattle.image.specs.Words.{Bytes}
 use Rattle.answer.specs.declared.outcome.Outcome.the-variants.{Passed}
 use Rattle.header.specs.Fields.{mEfnu}
 use Rattle.header.specs.Pointers.{blocksOf}
-use Rattle.volume.specs.Home.{blocks}
+use Rattle.home.specs.Home.{blocks}
 use Rattle.volume.specs.Volume.{slots, hasSlot, header, inUse, isNumber}
 use Rattle.volume.specs.Opening.{openVolume}
 use Rattle.file.specs.Chains.{goodLink, IsFirst, fileBlocks}

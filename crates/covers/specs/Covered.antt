@@ -9,7 +9,7 @@ use Rattle.answer.specs.declared.refusal.Refusal.the-variants as refusal
 use Rattle.answer.specs.declared.outcome.Outcome.{Outcome}
 use Rattle.answer.specs.Outcome.{unless}
 use Rattle.header.specs.Pointers.{pointerLbn, pointerCount, pointersAt, pointers, blocksOf}
-use Rattle.volume.specs.Home.{blocks}
+use Rattle.home.specs.Home.{blocks}
 use Rattle.volume.specs.Volume.{fmax, mapBlocks, storageMap}
 use Rattle.marks.specs.Counts.{oneIf, count}
 use Rattle.slots.specs.Slots.{gathered}

@@ -7,7 +7,7 @@ use Rattle.image.specs.First.{first}
 use Rattle.answer.specs.declared.refusal.Refusal.the-variants as refusal
 use Rattle.answer.specs.declared.outcome.Outcome.{Outcome}
 use Rattle.answer.specs.Outcome.{unless}
-use Rattle.volume.specs.Home.{position, homeIndex}
+use Rattle.home.specs.Home.{position, homeIndex}
 use Rattle.file.specs.Chains.{fileBlocks}
 use Rattle.marks.specs.Counts.{count}
 use Rattle.marks.specs.Marks.{markedTwice}

@@ -26,7 +26,7 @@ ghost use Prim.Native.Nat.{_≤_};
 ghost use lib.ListN.{length};
 ghost use Rattle.answer.specs.declared.outcome.Outcome.the-variants.{Passed};
 ghost use Rattle.header.specs.Pointers.{Fits, blocksOf};
-ghost use Rattle.volume.specs.Home.{blocks};
+ghost use Rattle.home.specs.Home.{blocks};
 ghost use Rattle.volume.specs.Volume.{header, inUse};
 ghost use Rattle.volume.specs.Opening.{openVolume, Open, Recorded};
 ghost use Rattle.marks.specs.Marks.{tallied, raisedBy};

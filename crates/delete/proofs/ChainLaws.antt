@@ -9,7 +9,7 @@ use lib.Seq.{getD-take}
 use Rattle.image.specs.Blocks.{block}
 use Rattle.header.specs.Pointers.{blocksOf}
 use Rattle.header.proofs.WholeLaws.{whole-fits}
-use Rattle.volume.specs.Home.{blocks}
+use Rattle.home.specs.Home.{blocks}
 use Rattle.volume.specs.Volume.{ibsz, iblb, slot, slots, hasSlot, header, faultOf, inUse, isNumber, mapBlocks, base, volumeOf}
 use Rattle.volume.specs.Opening.{Laid}
 use Rattle.volume.specs.declared.volume.Volume.{Volume}

@@ -12,7 +12,7 @@ use Rattle.image.proofs.BlockLaws.{block-region}
 use Rattle.image.specs.First.{first}
 use Rattle.image.proofs.First.{first-has, first-none, first-found, first-past, first-shift, first-same}
 use Rattle.header.specs.Pointers.{pointerLbn, pointerCount, runs, pointersAt, pointers, blocksOf}
-use Rattle.volume.specs.Home.{blocks}
+use Rattle.home.specs.Home.{blocks}
 use Rattle.header.proofs.PointerLaws.{runs-length, runs-le, runs-at}
 use Rattle.header.proofs.WholeLaws.{whole-is}
 use Rattle.volume.specs.Volume.{header, faultOf}

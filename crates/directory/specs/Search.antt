@@ -7,7 +7,7 @@ use lib.ListN.{length, getD}
 use Rattle.image.specs.Blocks.{block}
 use Rattle.image.specs.First.{first}
 use Rattle.header.specs.Pointers.{pointerLbn, pointerCount, pointersAt, pointers}
-use Rattle.volume.specs.Home.{blocks}
+use Rattle.home.specs.Home.{blocks}
 use Rattle.volume.specs.Opening.{Recorded}
 use Rattle.volume.specs.declared.volume.Volume.{Volume}
 use Rattle.file.specs.Chains.{goodChain, IsFirst, fileBlocks}

@@ -10,7 +10,7 @@ use Rattle.image.specs.Stores.{numbersFrom}
 use Rattle.answer.specs.declared.types.FileId.{FileId}
 use Rattle.header.specs.Fields.{mUse, mMax}
 use Rattle.header.proofs.WholeLaws.{whole-is}
-use Rattle.volume.specs.Home.{blocks}
+use Rattle.home.specs.Home.{blocks}
 use Rattle.volume.specs.Volume.{slot, header, faultOf, inUse, mapBlocks, base}
 use Rattle.volume.proofs.VolumeLaws.{Opens, slot-below, base-fits}
 use Rattle.slots.proofs.SlotLaws.{used-range}

@@ -14,7 +14,7 @@ use Rattle.answer.specs.declared.outcome.Outcome.the-variants as outcome
 use Rattle.answer.specs.Outcome.{unless, _then_}
 use Rattle.answer.proofs.OutcomeLaws.{then-passed, then-refused, passed-last, passed-first}
 use Rattle.header.specs.Fields.{userFlags}
-use Rattle.volume.specs.Home.{blocks}
+use Rattle.home.specs.Home.{blocks}
 use Rattle.volume.specs.Volume.{slot, header, storageMap}
 use Rattle.volume.specs.Opening.{openVolume}
 use Rattle.file.specs.Opening.{hasFlag, find, access, chained, openFile}

@@ -9,7 +9,7 @@ use Rattle.answer.specs.declared.outcome.Outcome.{Outcome}
 use Rattle.answer.specs.declared.outcome.Outcome.the-variants as outcome
 use Rattle.answer.specs.Outcome.{unless, _then_}
 use Rattle.header.specs.Fields.{hMpof, mUse, mMax}
-use Rattle.volume.specs.Home.{blocks}
+use Rattle.home.specs.Home.{blocks}
 use Rattle.volume.specs.Volume.{header, mapBlocks, base}
 use Rattle.file.specs.Opening.{openFile}
 use Rattle.update.specs.Extend.{isKnownNumber, isFixed, isCount, hasRoom, lastNumber, hasRun}

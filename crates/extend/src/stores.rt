@@ -10,7 +10,7 @@ ghost use lib.ListN.{length};
 ghost use Rattle.image.specs.Blocks.{block};
 ghost use Rattle.image.specs.Stores.{numbersFrom};
 ghost use Rattle.header.specs.Fields.{hMpof, mUse, mMax};
-ghost use Rattle.volume.specs.Home.{blocks};
+ghost use Rattle.home.specs.Home.{blocks};
 ghost use Rattle.volume.specs.Volume.{mapBlocks, base};
 ghost use Rattle.volume.specs.Opening.{Open};
 ghost use Rattle.edits.specs.Extended.{extendedHeader};

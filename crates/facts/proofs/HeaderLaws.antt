@@ -18,7 +18,7 @@ use Rattle.answer.proofs.OutcomeLaws.{refused-not, passed-then, passed-last, pa
 use Rattle.header.specs.Fields.{hIdof}
 use Rattle.header.specs.Pointers.{pointerLbn, pointerCount, pointers, Fits}
 use Rattle.header.proofs.WholeLaws.{whole-is}
-use Rattle.volume.specs.Home.{blocks}
+use Rattle.home.specs.Home.{blocks}
 use Rattle.volume.specs.Volume.{slot, header, faultOf, isNumber}
 use Rattle.volume.specs.Opening.{openVolume}
 use Rattle.file.proofs.NumberLaws.{number-length, number-fits}

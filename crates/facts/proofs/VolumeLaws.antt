@@ -8,7 +8,7 @@ use Rattle.image.specs.Blocks.{block}
 use Rattle.image.proofs.BlockLaws.{block-length}
 use Rattle.answer.specs.declared.refusal.Refusal.{Refusal}
 use Rattle.answer.specs.declared.outcome.Outcome.the-variants.{Passed, Refused}
-use Rattle.volume.specs.Home.{hVlev, blocks, home}
+use Rattle.home.specs.Home.{hVlev, blocks, home}
 use Rattle.volume.specs.Volume.{ibsz, iblb, fmax, places, index, slots, base, mapBlocks}
 use Rattle.volume.specs.Opening.{openVolume}
 use Rattle.volume.proofs.VolumeLaws.{opens, home-below}

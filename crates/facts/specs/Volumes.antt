@@ -6,7 +6,7 @@ use Rattle.image.specs.Words.{wordAt}
 use Rattle.image.specs.Blocks.{block}
 use Rattle.answer.specs.declared.outcome.Outcome.{Outcome}
 use Rattle.answer.specs.declared.outcome.Outcome.the-variants as outcome
-use Rattle.volume.specs.Home.{hVlev, blocks, home}
+use Rattle.home.specs.Home.{hVlev, blocks, home}
 use Rattle.volume.specs.Volume.{ibsz, iblb, fmax, places, slots, base, mapBlocks}
 use Rattle.volume.specs.Opening.{openVolume}
 use Rattle.facts.specs.declared.volumes.Geometry.{Geometry}

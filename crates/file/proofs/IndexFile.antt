@@ -12,7 +12,7 @@ use Rattle.image.specs.Blocks.{block}
 use Rattle.header.specs.Fields.{hFseq, segment, mEfnu, mEfsq}
 use Rattle.header.specs.Pointers.{blocksOf}
 use Rattle.header.specs.Whole.{fault}
-use Rattle.volume.specs.Home.{blocks}
+use Rattle.home.specs.Home.{blocks}
 use Rattle.volume.specs.Volume.{ibsz, iblb, inUse, partSlot, partSlots, leadsOn, placesFrom, places, mappedBy, index, indexEnds, slot, slots, hasSlot, header, faultOf, isNumber}
 use Rattle.volume.proofs.IndexLaws.{mapped-none, mapped-more, from-first, from-end, from-more, from-none, Leads, leads, used-low}
 use Rattle.volume.proofs.VolumeLaws.{Opens, slot-first}

@@ -11,7 +11,7 @@ use Rattle.answer.specs.declared.types.Lbn.{Lbn}
 use Rattle.header.specs.Fields.{hFseq, segment, mEfnu, mEfsq}
 use Rattle.volume.specs.declared.volume.Slot.{Slot}
 use Rattle.volume.specs.declared.volume.Slot.the-variants.{At, Missing}
-use Rattle.volume.specs.Home.{blocks}
+use Rattle.home.specs.Home.{blocks}
 use Rattle.volume.specs.Volume.{follows, slot, header, faultOf, isNumber}
 use Rattle.file.specs.declared.chains.Link.{Link}
 use Rattle.file.specs.declared.chains.Link.the-variants.{End, To, Bad}

@@ -14,7 +14,7 @@ use Rattle.answer.specs.declared.outcome.Outcome.the-variants.{Passed}
 use Rattle.header.specs.Fields.{mapArea, segment}
 use Rattle.header.specs.Pointers.{Fits}
 use Rattle.header.proofs.WholeLaws.{whole-fits}
-use Rattle.volume.specs.Home.{blocks}
+use Rattle.home.specs.Home.{blocks}
 use Rattle.volume.specs.Volume.{fmax, indexMap, slot, slots, hasSlot, header, faultOf, inUse, isNumber}
 use Rattle.volume.specs.Opening.{openVolume}
 use Rattle.volume.proofs.VolumeLaws.{opens, header-length}

@@ -14,7 +14,7 @@ use Rattle.image.proofs.BlockLaws.{block-bytes}
 use Rattle.header.specs.Fields.{mEfnu}
 use Rattle.header.specs.Pointers.{blocksOf}
 use Rattle.header.proofs.WholeLaws.{whole-inside}
-use Rattle.volume.specs.Home.{blocks}
+use Rattle.home.specs.Home.{blocks}
 use Rattle.volume.specs.Volume.{slot, header, faultOf}
 use Rattle.volume.proofs.IndexLaws.{blocksOf-most}
 use Rattle.file.specs.Chains.{chain, chainOf, every, linkOf, goodChain, flat, IsFirst, fileBlocks}

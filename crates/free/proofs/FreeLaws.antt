@@ -9,7 +9,7 @@ use Rattle.answer.specs.declared.refusal.Refusal.{Refusal}
 use Rattle.answer.specs.declared.refusal.Refusal.the-variants as refusal
 use Rattle.answer.specs.declared.outcome.Outcome.the-variants as outcome
 use Rattle.answer.specs.Outcome.{unless, _then_}
-use Rattle.volume.specs.Home.{blocks}
+use Rattle.home.specs.Home.{blocks}
 use Rattle.volume.specs.Opening.{openVolume}
 use Rattle.free.specs.Free.{isBit, nextBit, nextFree, nextTaken, findFree, freeFrom, freeRun}
 use Rattle.free.specs.declared.Free.the-variants.{Done, Refused}

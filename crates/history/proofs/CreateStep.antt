@@ -9,7 +9,7 @@ use lib.ListN.{length}
 use Rattle.answer.specs.declared.types.Name.{Name}
 use Rattle.answer.specs.declared.outcome.Outcome.the-variants.{Passed}
 use Rattle.header.specs.Fields.{hFseq}
-use Rattle.volume.specs.Home.{blocks}
+use Rattle.home.specs.Home.{blocks}
 use Rattle.volume.specs.Volume.{slots, header, inUse}
 use Rattle.volume.proofs.VolumeLaws.{fmax-below}
 use Rattle.sound.proofs.ChainLaws.{member-used}

@@ -8,7 +8,7 @@ use Rattle.image.specs.Words.{Bytes}
 use Rattle.image.specs.Stores.{zeros}
 use Rattle.image.proofs.StoreLaws.{zeros-length}
 use Rattle.header.specs.Fields.{hFseq, segment}
-use Rattle.volume.specs.Home.{blocks}
+use Rattle.home.specs.Home.{blocks}
 use Rattle.volume.specs.Volume.{fmax, slots, header, volumeOf, placesOf}
 use Rattle.volume.proofs.VolumeLaws.{opens, opens-all}
 use Rattle.file.specs.Chains.{fileBlocks}

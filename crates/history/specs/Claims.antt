@@ -7,7 +7,7 @@ use lib.ListN.{length, getD}
 use Rattle.image.specs.Words.{Bytes}
 use Rattle.image.specs.Blocks.{block}
 use Rattle.header.specs.Fields.{hFseq}
-use Rattle.volume.specs.Home.{blocks}
+use Rattle.home.specs.Home.{blocks}
 use Rattle.volume.specs.Volume.{fmax, header}
 use Rattle.file.specs.Chains.{fileBlocks}
 use Rattle.verdict.specs.Verdict.{verdictAnswer}

@@ -16,7 +16,7 @@ use Rattle.image.specs.Bits.{bitAt}
 use Rattle.image.proofs.BlockLaws.{block-length}
 use Rattle.header.specs.Pointers.{pointerLbn, pointerCount, runs, pointersAt, pointers, blocksOf}
 use Rattle.header.proofs.PointerLaws.{runs-none, runs-length, runs-at, runs-inside}
-use Rattle.volume.specs.Home.{blocks}
+use Rattle.home.specs.Home.{blocks}
 use Rattle.volume.specs.Volume.{ibsz, fmax, indexHeader, places, mappedBy, index, slot, slots, header, indexMap, inUse}
 use Rattle.volume.specs.declared.volume.Volume.{Volume}
 use Rattle.volume.specs.Opening.{indexMapBlocks, Recorded}

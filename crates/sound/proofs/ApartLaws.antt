@@ -6,7 +6,7 @@ use Prim.Native.Nat.{ℕ, _+_, _<_}
 use native.Mathlib.Omega.{arith}
 use lib.ListN.{length, getD}
 use Rattle.header.specs.Pointers.{blocksOf}
-use Rattle.volume.specs.Home.{blocks}
+use Rattle.home.specs.Home.{blocks}
 use Rattle.volume.specs.Volume.{header, ibsz, index, slot, slots}
 use Rattle.volume.proofs.VolumeLaws.{Opens, index-file, opens, storage-size, storage-base}
 use Rattle.file.specs.Chains.{chainOf, fileBlocks}

@@ -8,7 +8,7 @@ use native.Mathlib.Omega.{arith}
 use Rattle.answer.specs.declared.refusal.Refusal.the-variants as refusal
 use Rattle.header.specs.Pointers.{blocksOf}
 use Rattle.header.proofs.WholeLaws.{whole-inside}
-use Rattle.volume.specs.Home.{blocks}
+use Rattle.home.specs.Home.{blocks}
 use Rattle.volume.specs.Volume.{fmax, header, faultOf, inUse}
 use Rattle.marks.specs.Counts.{count}
 use Rattle.marks.proofs.SumLaws.{sumTo}

@@ -12,7 +12,7 @@ use Rattle.answer.specs.declared.outcome.Outcome.{Outcome}
 use Rattle.answer.specs.declared.outcome.Outcome.the-variants.{Passed, Refused}
 use Rattle.answer.specs.Outcome.{unless}
 use Rattle.answer.proofs.OutcomeLaws.{passed-then, then-passed}
-use Rattle.volume.specs.Home.{blocks, position, homeIndex}
+use Rattle.home.specs.Home.{blocks, position, homeIndex}
 use Rattle.volume.specs.Volume.{fmax}
 use Rattle.volume.specs.Opening.{openVolume}
 use Rattle.volume.proofs.VolumeLaws.{opens}

@@ -3,7 +3,7 @@ use mathlib.Core.List.{List}
 use Prim.Native.Nat.{ℕ, _≤_, _<_}
 use native.Mathlib.Omega.{arith}
 use Rattle.answer.specs.declared.refusal.Refusal.the-variants as refusal
-use Rattle.volume.specs.Home.{position, homeIndex}
+use Rattle.home.specs.Home.{position, homeIndex}
 use Rattle.file.specs.Chains.{fileBlocks}
 use Rattle.marks.specs.Counts.{count}
 use Rattle.marks.proofs.CountLaws.{count-at, count-find}

@@ -8,7 +8,7 @@ use native.Mathlib.Omega.{arith}
 use lib.Dec.{eqb, ltb}
 use Rattle.image.specs.Bits.{bitAt}
 use Rattle.answer.specs.declared.refusal.Refusal.the-variants as refusal
-use Rattle.volume.specs.Home.{blocks}
+use Rattle.home.specs.Home.{blocks}
 use Rattle.volume.specs.Volume.{mapBlocks, storageMap}
 use Rattle.marks.specs.Counts.{oneIf, count}
 use Rattle.covers.specs.Covered.{covered, mapBits, wrongBit, mapPlace, map}

@@ -6,7 +6,7 @@ use Prim.Native.Nat.{ℕ, _+_, _≤_, _<_}
 use lib.ListN.{length, getD}
 use Rattle.answer.specs.declared.outcome.Outcome.the-variants.{Passed}
 use Rattle.header.specs.Fields.{segment}
-use Rattle.volume.specs.Home.{blocks, position, homeIndex, home}
+use Rattle.home.specs.Home.{blocks, position, homeIndex, home}
 use Rattle.volume.specs.Volume.{ibsz, iblb, fmax, slot, slots, header, inUse, mapBlocks, base}
 use Rattle.volume.specs.Opening.{openVolume}
 use Rattle.file.specs.Chains.{fileBlocks}

@@ -10,7 +10,7 @@ use lib.ListN.{length, getD}
 use Rattle.image.specs.Bits.{bitAt}
 use Rattle.header.specs.Fields.{hFseq, segment, mEfnu, mEfsq}
 use Rattle.header.specs.Pointers.{blocksOf}
-use Rattle.volume.specs.Home.{blocks, position, homeIndex}
+use Rattle.home.specs.Home.{blocks, position, homeIndex}
 use Rattle.volume.specs.Volume.{slots, header, faultOf, inUse, storageMap}
 use Rattle.file.specs.Chains.{fileBlocks}
 use Rattle.covers.specs.Covered.{mapBits}

@@ -11,7 +11,7 @@ use Rattle.image.specs.Words.{Bytes}
 use Rattle.image.specs.Blocks.{region, block}
 use Rattle.image.specs.Bits.{bitAt}
 use Rattle.image.proofs.StoreLaws.{Keeps, keeps-trans, keeps-weaken}
-use Rattle.volume.specs.Home.{blocks}
+use Rattle.home.specs.Home.{blocks}
 use Rattle.volume.specs.Volume.{ibsz, iblb, fmax, slot, slots, header, faultOf, inUse, indexMap, mapBlocks, base, storageMap}
 use Rattle.volume.proofs.VolumeLaws.{slot-below}
 use Rattle.file.specs.Chains.{chainOf}

@@ -9,7 +9,7 @@ use native.Mathlib.Decide.{ℕ-discrete}
 use native.Mathlib.Omega.{arith}
 use Rattle.image.specs.Bits.{bitAt}
 use Rattle.header.specs.Fields.{segment, mEfnu}
-use Rattle.volume.specs.Home.{blocks}
+use Rattle.home.specs.Home.{blocks}
 use Rattle.volume.specs.Volume.{slots, header, faultOf, inUse, storageMap}
 use Rattle.slots.proofs.SlotLaws.{used-range}
 use Rattle.sound.specs.Sound.{GoodLink, OneLink, Covers, Mapped, Sound}

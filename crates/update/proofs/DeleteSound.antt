@@ -12,7 +12,7 @@ use Rattle.image.specs.Words.{Bytes}
 use Rattle.image.specs.Bits.{bitAt}
 use Rattle.header.specs.Fields.{segment, mEfnu}
 use Rattle.header.specs.Pointers.{blocksOf}
-use Rattle.volume.specs.Home.{blocks}
+use Rattle.home.specs.Home.{blocks}
 use Rattle.volume.specs.Volume.{header, faultOf, inUse, storageMap}
 use Rattle.file.specs.Chains.{chainOf, flat}
 use Rattle.marks.specs.Counts.{count, In}

@@ -15,7 +15,7 @@ use Rattle.answer.specs.Outcome.{unless, _then_}
 use Rattle.answer.proofs.OutcomeLaws.{then-passed}
 use Rattle.radix50.specs.Names.{proper}
 use Rattle.header.specs.Fields.{hFseq}
-use Rattle.volume.specs.Home.{blocks}
+use Rattle.home.specs.Home.{blocks}
 use Rattle.volume.specs.Volume.{fmax, header}
 use Rattle.volume.proofs.VolumeLaws.{opens-all}
 use Rattle.file.specs.Chains.{chainOf}

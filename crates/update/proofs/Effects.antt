@@ -10,7 +10,7 @@ use Rattle.image.specs.Stores.{numbersFrom}
 use Rattle.image.proofs.StoreLaws.{Keeps}
 use Rattle.header.specs.Fields.{hFseq, segment, mEfnu, mEfsq}
 use Rattle.header.specs.Pointers.{blocksOf}
-use Rattle.volume.specs.Home.{blocks, position, homeIndex}
+use Rattle.home.specs.Home.{blocks, position, homeIndex}
 use Rattle.volume.specs.Volume.{ibsz, iblb, fmax, slot, slots, header, faultOf, inUse, mapBlocks, base, storageMap}
 use Rattle.volume.proofs.VolumeLaws.{Opens}
 use Rattle.file.specs.Chains.{chainOf, flat, fileBlocks}

@@ -18,7 +18,7 @@ use Rattle.image.proofs.First.{first-has}
 use Rattle.image.proofs.StoreLaws.{Keeps, keeps-trans, keeps-weaken}
 use Rattle.header.specs.Fields.{mEfnu, mUse, mMax}
 use Rattle.header.specs.Pointers.{blocksOf}
-use Rattle.volume.specs.Home.{blocks, position, homeIndex}
+use Rattle.home.specs.Home.{blocks, position, homeIndex}
 use Rattle.volume.specs.Volume.{ibsz, iblb, fmax, slot, slots, header, faultOf, inUse, indexMap, mapBlocks, base, storageMap}
 use Rattle.volume.proofs.VolumeLaws.{slot-below, header-length, base-fits}
 use Rattle.file.specs.Chains.{chainOf, flat, fileBlocks}

@@ -14,7 +14,7 @@ use Rattle.image.specs.Stores.{numbersFrom}
 use Rattle.image.proofs.Numbers.{numbersFrom-length, numbersFrom-at}
 use Rattle.header.specs.Fields.{segment, mEfnu}
 use Rattle.header.specs.Pointers.{blocksOf}
-use Rattle.volume.specs.Home.{blocks}
+use Rattle.home.specs.Home.{blocks}
 use Rattle.volume.specs.Volume.{header, faultOf, inUse, storageMap}
 use Rattle.sound.specs.Sound.{GoodLink, OneLink, Covers, Mapped, Sound}
 use Rattle.sound.proofs.MapLaws.{bits-enough}

@@ -9,7 +9,7 @@ use lib.ListN.{length, getD}
 use Rattle.image.specs.Blocks.{block}
 use Rattle.image.proofs.First.{Is, first-has, first-is}
 use Rattle.header.specs.Pointers.{blocksOf}
-use Rattle.volume.specs.Home.{isHome, blocks, position, positions, homeAt, homeIndex, home}
+use Rattle.home.specs.Home.{isHome, blocks, position, positions, homeAt, homeIndex, home}
 use Rattle.header.specs.Fields.{mEfnu}
 use Rattle.volume.specs.Volume.{ibsz, iblb, fmax, indexHeader, places, index, indexEnds, padded, slot, slots, header, inUse, mapBlocks, base, volumeOf, placesOf}
 use Rattle.volume.specs.Opening.{indexMapBlocks}

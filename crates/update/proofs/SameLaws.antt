@@ -4,7 +4,7 @@ use mathlib.Core.Bool.{true}
 use mathlib.Core.List.{List}
 use Prim.Native.Nat.{ℕ, _+_}
 use Rattle.header.specs.Fields.{hFseq, segment, mEfnu, mEfsq}
-use Rattle.volume.specs.Home.{blocks}
+use Rattle.home.specs.Home.{blocks}
 use Rattle.volume.specs.Volume.{slots, header, faultOf, inUse}
 use Rattle.sound.specs.Sound.{GoodLink, Known, Covers}
 

@@ -10,7 +10,7 @@ use Rattle.answer.specs.declared.outcome.Outcome.{Outcome}
 use Rattle.answer.specs.declared.outcome.Outcome.the-variants as outcome
 use Rattle.answer.specs.Outcome.{unless, _then_}
 use Rattle.header.specs.Fields.{userFlags, mUse, mMax}
-use Rattle.volume.specs.Home.{blocks}
+use Rattle.home.specs.Home.{blocks}
 use Rattle.volume.specs.Volume.{slot, header, mapBlocks, base, storageMap}
 use Rattle.file.specs.Chains.{chainOf}
 use Rattle.file.specs.Opening.{hasFlag, openFile}

@@ -8,7 +8,7 @@ use native.Mathlib.Omega.{arith}
 use lib.Dec.{eqb, leb}
 use lib.ListN.{length}
 use Rattle.image.specs.Bits.{bitAt}
-use Rattle.volume.specs.Home.{blocks}
+use Rattle.home.specs.Home.{blocks}
 use Rattle.volume.specs.Volume.{fmax, indexMap, inUse, mapBlocks, storageMap}
 use Rattle.volume.proofs.VolumeLaws.{Opens, storageMap-length}
 use Rattle.marks.specs.Counts.{oneIf, count, howMany}

@@ -23,7 +23,7 @@ ghost use lib.ListN.{length};
 ghost use Rattle.image.specs.Stores.{zeros};
 ghost use Rattle.answer.specs.declared.outcome.Outcome.the-variants.{Passed};
 ghost use Rattle.answer.specs.Outcome.{_then_};
-ghost use Rattle.volume.specs.Home.{blocks};
+ghost use Rattle.home.specs.Home.{blocks};
 ghost use Rattle.volume.specs.Volume.{fmax, volumeOf, placesOf};
 ghost use Rattle.volume.specs.Opening.{Open, Recorded};
 ghost use Rattle.marks.specs.Marks.{tallied};

@@ -23,7 +23,7 @@ use Rattle.header.specs.declared.pointers.Place.the-variants.{At, Past}
 use Rattle.header.specs.Whole.{fault}
 use Rattle.header.proofs.PointerLaws.{place-at, place-past, runs-none, runs-length}
 use Rattle.header.proofs.WholeLaws.{whole-fits, whole-inside}
-use Rattle.volume.specs.Home.{blocks}
+use Rattle.home.specs.Home.{blocks}
 use Rattle.volume.specs.Volume.{ibsz, iblb, fmax, indexMap, inUse, indexHeader, partSlot, partSlots, follows, leadsOn, placesFrom, places, mappedBy, index, indexEnds, padded}
 
 -- A place in two lists of LBNs, one after the other, by where it lies in the first.

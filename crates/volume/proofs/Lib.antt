@@ -1,4 +1,3 @@
-pub mod HomeLaws
 pub mod IndexLaws
 pub mod IndexSame
 pub mod OpeningLaws

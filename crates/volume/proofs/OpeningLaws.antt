@@ -20,8 +20,8 @@ use Rattle.answer.specs.Outcome.{unless, _then_}
 use Rattle.answer.proofs.OutcomeLaws.{refused-not}
 use Rattle.header.specs.Pointers.{pointerLbn, pointerCount, runs, pointersAt, pointers, blocksOf}
 use Rattle.header.proofs.PointerLaws.{runs-none, runs-length, runs-at}
-use Rattle.volume.specs.Home.{blocks, positions, homeIndex, home}
-use Rattle.volume.proofs.HomeLaws.{position-below}
+use Rattle.home.specs.Home.{blocks, positions, homeIndex, home}
+use Rattle.home.proofs.HomeLaws.{position-below}
 use Rattle.volume.specs.declared.opening.OpenVolume.{OpenVolume}
 use Rattle.volume.specs.Volume.{ibsz, iblb, fmax}
 use Rattle.volume.specs.Opening.{sized, homed, indexMapBlocks, geometry, indexLbn, indexAt, indexMapped, indexed, storageMapped, stored, openVolume, TellsVolume}

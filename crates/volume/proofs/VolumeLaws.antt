@@ -26,7 +26,7 @@ use Rattle.header.specs.declared.pointers.Place.the-variants as place
 use Rattle.header.specs.Whole.{fault}
 use Rattle.header.proofs.PointerLaws.{place-at, place-past}
 use Rattle.header.proofs.WholeLaws.{whole-fits, whole-inside}
-use Rattle.volume.specs.Home.{hFmax, blocks, positions, homeIndex, home}
+use Rattle.home.specs.Home.{hFmax, blocks, positions, homeIndex, home}
 use Rattle.volume.specs.Volume.{ibsz, iblb, fmax, indexHeader, places, index, indexEnds, placesOf, slot, slots, hasSlot, slotOf, header, indexMap, mapBlocks, base, storageMap, volumeOf}
 use Rattle.volume.specs.declared.volume.Volume.{Volume}
 use Rattle.volume.specs.declared.volume.Slot.{Slot}

@@ -12,7 +12,7 @@ use Rattle.image.specs.Blocks.{block}
 use Rattle.image.specs.Stores.{zeros}
 use Rattle.header.specs.Fields.{mEfnu}
 use Rattle.header.specs.Pointers.{blocksOf}
-use Rattle.volume.specs.Home.{blocks}
+use Rattle.home.specs.Home.{blocks}
 use Rattle.volume.specs.Volume.{ibsz, iblb, inUse, partSlot, partSlots, follows, leadsOn, placesFrom, places, mappedBy, indexEnds, padded}
 use Rattle.volume.specs.Opening.{FirstFit, Walked}
 use Rattle.volume.proofs.IndexLaws.{Lies, lies-fits, AllLie, lie-none, lie-last, Inside, mapped-inside, mapped-none, mapped-last, leads-none, leads-lies, from-end, from-more, from-last, ends-last, padded-take, padded-length, padded-more, used-low}

@@ -1,3 +1,2 @@
-pub mod Home
 pub mod Volume
 pub mod Opening

@@ -15,7 +15,7 @@ use Rattle.answer.specs.Outcome.{unless, _then_}
 use Rattle.header.specs.Fields.{hFseq, segment, mEfnu}
 use Rattle.header.specs.Pointers.{pointerCount, pointersAt, pointers, Fits, blocksOf}
 use Rattle.header.specs.Whole.{fault}
-use Rattle.volume.specs.Home.{blocks, positions, homeIndex, home}
+use Rattle.home.specs.Home.{blocks, positions, homeIndex, home}
 use Rattle.volume.specs.Volume.{ibsz, iblb, fmax, indexHeader, places, indexEnds, padded, placesOf, header, mapBlocks, volumeOf}
 use Rattle.volume.specs.declared.volume.Volume.{Volume}
 use Rattle.volume.specs.declared.opening.OpenVolume.{OpenVolume}

@@ -11,7 +11,7 @@ use Rattle.image.specs.Stores.{zeros}
 use Rattle.header.specs.Fields.{hFseq, segment, mEfnu, mEfsq}
 use Rattle.header.specs.Pointers.{blocksOf}
 use Rattle.header.specs.Whole.{fault}
-use Rattle.volume.specs.Home.{hIbsz, hIblb, hFmax, blocks, home}
+use Rattle.home.specs.Home.{hIbsz, hIblb, hFmax, blocks, home}
 use Rattle.volume.specs.declared.volume.Volume.{Volume}
 use Rattle.volume.specs.declared.volume.Slot.{Slot}
 use Rattle.volume.specs.declared.volume.Slot.the-variants.{At, Missing}

@@ -18,7 +18,7 @@ ghost use Prim.Native.Nat.{_≤_};
 ghost use lib.ListN.{length, take};
 ghost use Rattle.header.specs.Fields.{mEfnu};
 ghost use Rattle.header.specs.Pointers.{placeIn};
-ghost use Rattle.volume.specs.Home.{blocks};
+ghost use Rattle.home.specs.Home.{blocks};
 ghost use Rattle.image.specs.Stores.{zeros};
 ghost use Rattle.volume.specs.Volume.{indexHeader, follows, mappedBy, index};
 ghost use Rattle.volume.specs.Opening.{sized, geometry, heads, Laid, FirstFit, Walked, Recorded};

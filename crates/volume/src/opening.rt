@@ -1,9 +1,4 @@
 // Opening a volume: SIZE, HOME, GEOMETRY, INDEX, STORAGE, in this order.
-use crate::home::h_fmax;
-use crate::home::h_iblb;
-use crate::home::h_ibsz;
-use crate::home::home_index;
-use crate::home::position;
 use crate::index::headers_of;
 use crate::volume::Places;
 use crate::volume::Volume;
@@ -21,6 +16,11 @@ use header::pointers::pointer_count;
 use header::pointers::pointer_lbn;
 use header::pointers::pointer_number;
 use header::whole::fault;
+use home::h_fmax;
+use home::h_iblb;
+use home::h_ibsz;
+use home::home_index;
+use home::position;
 use image::blocks::block;
 use image::words::byte_or_zero;
 ghost use mathlib.Core.Path.{_≡_};
@@ -34,7 +34,7 @@ ghost use Rattle.image.specs.Stores.{zeros};
 ghost use Rattle.answer.specs.declared.outcome.Outcome.the-variants as outcome;
 ghost use Rattle.image.specs.First.{below};
 ghost use Rattle.header.specs.Pointers.{Fits, blocksOf};
-ghost use Rattle.volume.specs.Home.{hIbsz, hIblb, hFmax, blocks, home};
+ghost use Rattle.home.specs.Home.{hIbsz, hIblb, hFmax, blocks, home};
 ghost use Rattle.volume.specs.Volume.{mapBlocks};
 ghost use Rattle.volume.specs.Opening.{sized, homed, indexMapBlocks, geometry, indexLbn, heads, alone, indexMapped, storageMapped, volumeAnswer, Laid, TellsVolume};
 

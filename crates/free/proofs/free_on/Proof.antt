@@ -7,7 +7,7 @@ use denote.Ref.{now}
 use lib.ListN.{length}
 use borrow.Author.Needs.{needs}
 use Rattle.image.specs.Blocks.{region}
-use Rattle.volume.specs.Home.{blocks}
+use Rattle.home.specs.Home.{blocks}
 use Rattle.volume.specs.Volume.{mapBlocks, storageMap}
 use Rattle.volume.specs.Opening.{Laid}
 use Rattle.volume.proofs.VolumeLaws.{Opens, opens, says, says-base, storageMap-length}

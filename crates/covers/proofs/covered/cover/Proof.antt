@@ -4,7 +4,7 @@ use mathlib.Core.List.{List, []}
 use Prim.Native.Nat.{ℕ}
 use native.Mathlib.Omega.{arith}
 use denote.Ref.{now}
-use Rattle.volume.specs.Home.{blocks}
+use Rattle.home.specs.Home.{blocks}
 use Rattle.volume.proofs.VolumeLaws.{says}
 use Rattle.marks.specs.Marks.{cleared, raisedBy}
 use Rattle.marks.proofs.MarkLaws.{cleared-tallied, tallied-by}

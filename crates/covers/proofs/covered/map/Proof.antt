@@ -10,7 +10,7 @@ use Rattle.image.specs.Blocks.{region}
 use Rattle.image.specs.First.{first}
 use Rattle.image.proofs.First.{first-has}
 use Rattle.answer.specs.Outcome.{unless}
-use Rattle.volume.specs.Home.{blocks}
+use Rattle.home.specs.Home.{blocks}
 use Rattle.volume.specs.Volume.{mapBlocks, storageMap}
 use Rattle.volume.proofs.VolumeLaws.{Opens, opens, says, says-base, storageMap-length}
 use Rattle.marks.specs.Marks.{unlikeMarks}

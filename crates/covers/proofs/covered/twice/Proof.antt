@@ -6,7 +6,7 @@ use denote.Ref.{now}
 use Rattle.image.specs.First.{first}
 use Rattle.image.proofs.First.{first-has}
 use Rattle.answer.specs.Outcome.{unless}
-use Rattle.volume.specs.Home.{blocks}
+use Rattle.home.specs.Home.{blocks}
 use Rattle.volume.proofs.VolumeLaws.{opens, says}
 use Rattle.marks.specs.Marks.{markedTwice}
 use Rattle.covers.specs.Covered.{twicePlace, twice}

@@ -9,7 +9,7 @@ use lib.ListN.{length, getD}
 use Rattle.image.specs.First.{first}
 use Rattle.image.proofs.First.{first-has}
 use Rattle.answer.specs.Outcome.{unless}
-use Rattle.volume.specs.Home.{blocks, position, positions, homeIndex, home}
+use Rattle.home.specs.Home.{blocks, position, positions, homeIndex, home}
 use Rattle.volume.proofs.VolumeLaws.{Opens, opens, says, home-below}
 use Rattle.file.specs.Chains.{fileBlocks}
 use Rattle.marks.specs.Counts.{count, In}

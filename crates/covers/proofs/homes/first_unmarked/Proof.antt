@@ -9,7 +9,7 @@ use denote.Ref.{now}
 use Rattle.image.specs.Words.{byteAt}
 use Rattle.image.specs.First.{first}
 use Rattle.image.proofs.First.{first-start, first-here, first-on, first-none}
-use Rattle.volume.specs.Home.{position}
+use Rattle.home.specs.Home.{position}
 use Rattle.marks.specs.Marks.{markedTwice}
 use Rattle.covers.specs.Homes.{unmarked}
 use Rattle.covers.proofs.MarkedLaws.{position-most}

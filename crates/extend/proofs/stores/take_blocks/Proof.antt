@@ -5,7 +5,7 @@ use Prim.Native.Nat.{ℕ}
 use native.Mathlib.Omega.{arith}
 use denote.Ref.{now}
 use borrow.Author.Needs.{needs}
-use Rattle.volume.specs.Home.{blocks}
+use Rattle.home.specs.Home.{blocks}
 use Rattle.volume.specs.Volume.{mapBlocks, base}
 use Rattle.volume.proofs.VolumeLaws.{Opens, opens, says, says-base, base-fits}
 use Rattle.extend.proofs.stores.take_blocks.Statement.{statement}

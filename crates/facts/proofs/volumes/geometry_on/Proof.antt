@@ -6,7 +6,7 @@ use native.Mathlib.Omega.{arith}
 use denote.Ref.{now}
 use lib.ListN.{length}
 use Rattle.image.specs.Blocks.{block}
-use Rattle.volume.specs.Home.{hVlev, home}
+use Rattle.home.specs.Home.{hVlev, home}
 use Rattle.volume.specs.Volume.{mapBlocks}
 use Rattle.volume.specs.Opening.{Laid}
 use Rattle.volume.proofs.VolumeLaws.{Opens, index-file, opens, says, says-base, says-segments, segments-most}

@@ -6,7 +6,7 @@ use denote.Ref.{now}
 use Rattle.image.specs.Stores.{zeros}
 use Rattle.image.specs.Blocks.{block}
 use Rattle.answer.specs.declared.outcome.Outcome.the-variants.{Passed}
-use Rattle.volume.specs.Home.{home}
+use Rattle.home.specs.Home.{home}
 use Rattle.volume.specs.Opening.{openVolume}
 use Rattle.volume.proofs.VolumeLaws.{says}
 use Rattle.facts.specs.Volumes.{labelIn}

@@ -7,7 +7,7 @@ use Prim.Native.Nat.{_≤_}
 use denote.Ref.{now}
 use borrow.Author.Tests.{not-true, not-false}
 use Rattle.header.specs.Whole.{fault}
-use Rattle.volume.specs.Home.{blocks}
+use Rattle.home.specs.Home.{blocks}
 use Rattle.volume.specs.Volume.{slots, header, faultOf, inUse}
 use Rattle.volume.proofs.VolumeLaws.{opens, says, header-length}
 use Rattle.slots.proofs.SlotLaws.{stands-at, stands-header, stands-none}

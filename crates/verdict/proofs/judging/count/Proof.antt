@@ -6,7 +6,7 @@ use native.Mathlib.Omega.{arith}
 use denote.Ref.{now}
 use lib.ListN.{length}
 use Rattle.image.specs.Blocks.{region}
-use Rattle.volume.specs.Home.{blocks}
+use Rattle.home.specs.Home.{blocks}
 use Rattle.volume.specs.Volume.{ibsz, fmax, indexMap, mapBlocks, storageMap}
 use Rattle.volume.specs.Opening.{Laid, indexMapBlocks}
 use Rattle.volume.proofs.VolumeLaws.{Opens, opens, says, says-base, fmax-below, storageMap-length, indexMap-length}

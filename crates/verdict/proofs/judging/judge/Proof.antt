@@ -7,7 +7,7 @@ use denote.Ref.{now}
 use Rattle.image.specs.Stores.{zeros}
 use lib.ListN.{length}
 use Rattle.answer.specs.declared.outcome.Outcome.the-variants as outcome
-use Rattle.volume.specs.Home.{blocks}
+use Rattle.home.specs.Home.{blocks}
 use Rattle.marks.proofs.MarkLaws.{tallied-length}
 use Rattle.numbers.proofs.LinksLaws.{tallied-still}
 use Rattle.covers.specs.Covered.{covered}

@@ -7,7 +7,7 @@ use denote.Ref.{now}
 use lib.ListN.{length}
 use Rattle.answer.specs.declared.outcome.Outcome.the-variants as outcome
 use Rattle.answer.specs.Outcome.{_then_}
-use Rattle.volume.specs.Home.{blocks}
+use Rattle.home.specs.Home.{blocks}
 use Rattle.marks.specs.Marks.{tallied}
 use Rattle.marks.proofs.MarkLaws.{tallied-length}
 use Rattle.numbers.proofs.LinksLaws.{tallied-still}

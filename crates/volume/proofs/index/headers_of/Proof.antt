@@ -4,7 +4,7 @@ use native.Mathlib.Omega.{arith}
 use mathlib.Core.Path.{_≡_}
 use Prim.Native.Nat.{_+_, _≤_}
 use denote.Ref.{now}
-use Rattle.volume.specs.Home.{blocks}
+use Rattle.home.specs.Home.{blocks}
 use Rattle.volume.specs.Volume.{indexHeader}
 use Rattle.volume.proofs.VolumeLaws.{heads-gives, laid-room}
 use Rattle.volume.proofs.WalkLaws.{along-start, along-end}

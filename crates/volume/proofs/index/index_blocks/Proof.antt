@@ -49,7 +49,7 @@ header-read c =
     c .block .ensures ∙ ap (block (now (s .args .image))) (at-hand i .1)
 
 loop-holds : tie.Need-loop-holds Inv-loop μ-loop
-loop-holds c = (search needs, sym (ap length (mapped-none (now (c .before .args .image)))), omega arith)
+loop-holds c = (omega (arith, room (c .before)), sym (ap length (mapped-none (now (c .before .args .image)))), omega arith)
 
 mul-block : tie.Need-mul-block Inv-loop μ-loop
 mul-block c = omega (arith, room (c .before .before .before))

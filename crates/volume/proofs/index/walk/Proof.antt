@@ -15,7 +15,7 @@ use Rattle.header.specs.Fields.{mEfnu}
 use Rattle.header.specs.Pointers.{placeIn}
 use Rattle.header.specs.declared.pointers.Place.{Place}
 use Rattle.header.specs.declared.pointers.Place.the-variants.{At, Past}
-use Rattle.volume.specs.Home.{blocks}
+use Rattle.home.specs.Home.{blocks}
 use Rattle.volume.specs.Volume.{ibsz, inUse, follows, leadsOn, mappedBy, indexHeader}
 use Rattle.volume.proofs.OpeningLaws.{sized-is, geometry-is}
 use Rattle.volume.proofs.IndexLaws.{Found, found, leads-unused}

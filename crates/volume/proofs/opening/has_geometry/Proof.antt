@@ -5,7 +5,7 @@ use mathlib.Core.Bool.{and-false}
 use Prim.Native.Nat.{_+_}
 use denote.Ref.{now}
 use borrow.Author.Tests.{eq-eqb, ne-eqb, le-leb, lt-leb}
-use Rattle.volume.specs.Home.{hIbsz, hIblb, hFmax}
+use Rattle.home.specs.Home.{hIbsz, hIblb, hFmax}
 use Rattle.volume.specs.Opening.{indexMapBlocks}
 use Rattle.volume.proofs.opening.has_geometry.Statement.{statement}
 use Rattle.volume.proofs.opening.has_geometry.Tie as tie

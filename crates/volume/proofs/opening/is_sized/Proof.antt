@@ -6,7 +6,7 @@ use denote.Ref.{now}
 use lib.ListN.{length}
 use Prim.Native.Nat.{_*_}
 use borrow.Author.Tests.{eq-eqb, ne-eqb, le-leb, lt-leb}
-use Rattle.volume.specs.Home.{blocks}
+use Rattle.home.specs.Home.{blocks}
 use Rattle.volume.specs.Opening.{sized}
 use Rattle.volume.proofs.opening.is_sized.Statement.{statement}
 use Rattle.volume.proofs.opening.is_sized.Tie as tie

@@ -8,7 +8,7 @@ use denote.Ref.{now}
 use lib.ListN.{length}
 use borrow.Author.Tests.{not-true, not-false, lt-ltb, le-ltb}
 use Rattle.answer.specs.declared.refusal.Refusal.the-variants as refusal
-use Rattle.volume.specs.Home.{blocks, position, positions, homeIndex, home}
+use Rattle.home.specs.Home.{blocks, position, positions, homeIndex, home}
 use Rattle.volume.specs.Opening.{sized, homed}
 use Rattle.volume.proofs.OpeningLaws.{sized-is, open-refused, open-size, open-home}
 use Rattle.volume.proofs.opening.open.Statement.{statement}

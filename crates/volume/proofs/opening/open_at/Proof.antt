@@ -6,7 +6,7 @@ use lib.ListN.{length}
 use borrow.Author.Tests.{not-true, not-false}
 use Rattle.answer.specs.declared.refusal.Refusal.the-variants as refusal
 use Rattle.image.specs.Blocks.{block}
-use Rattle.volume.specs.Home.{hIbsz, hIblb, hFmax, home}
+use Rattle.home.specs.Home.{hIbsz, hIblb, hFmax, home}
 use Rattle.volume.specs.Volume.{ibsz, iblb, fmax}
 use Rattle.volume.specs.Opening.{geometry}
 use Rattle.volume.proofs.OpeningLaws.{home-length, open-refused, open-geometry}

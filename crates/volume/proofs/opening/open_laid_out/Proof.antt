@@ -12,7 +12,7 @@ use lib.Dec.{eqb}
 use Rattle.answer.specs.declared.refusal.Refusal.the-variants as refusal
 use Rattle.header.specs.Pointers.{blocksOf}
 use Rattle.header.proofs.WholeLaws.{whole-fits}
-use Rattle.volume.specs.Home.{blocks, home}
+use Rattle.home.specs.Home.{blocks, home}
 use Rattle.volume.specs.Volume.{iblb, ibsz, indexHeader, indexEnds, placesOf, header, base}
 use Rattle.volume.specs.Opening.{heads, indexMapped, indexed, stored}
 use Rattle.volume.proofs.OpeningLaws.{open-refused, open-index, open-storage, open-passed}

@@ -3,7 +3,7 @@ use borrow.Author.Needs.{needs}
 use mathlib.Core.Path.{refl, sym, _∙_}
 use denote.Ref.{now}
 use Rattle.image.specs.Stores.{zeros}
-use Rattle.volume.specs.Home.{home}
+use Rattle.home.specs.Home.{home}
 use Rattle.volume.specs.Opening.{openedVolume, volumeAnswer}
 use Rattle.volume.proofs.VolumeLaws.{says}
 use Rattle.volume.proofs.opening.open_volume.Statement.{statement}

@@ -1,9 +1,9 @@
 -- The two words as one number.
 use native.Mathlib.Omega.{arith}
 use borrow.Author.Needs.{needs}
-use Rattle.volume.specs.Home.{hIblb}
-use Rattle.volume.proofs.home.h_iblb.Statement.{statement}
-use Rattle.volume.proofs.home.h_iblb.Tie as tie
+use Rattle.home.specs.Home.{hIblb}
+use Rattle.home.proofs.h_iblb.Statement.{statement}
+use Rattle.home.proofs.h_iblb.Tie as tie
 
 returns : tie.Need-returns
 unfolding hIblb

@@ -8,10 +8,10 @@ use Rattle.image.specs.Blocks.{block}
 use Rattle.image.specs.First.{first}
 use Rattle.image.proofs.First.{first-here, first-on, first-none}
 use Rattle.image.proofs.BlockLaws.{block-length}
-use Rattle.volume.specs.Home.{position, positions, homeAt, homeIndex}
-use Rattle.volume.proofs.HomeLaws.{position-below, homeIndex-by}
-use Rattle.volume.proofs.home.home_index.Statement.{statement}
-use Rattle.volume.proofs.home.home_index.Tie as tie
+use Rattle.home.specs.Home.{position, positions, homeAt, homeIndex}
+use Rattle.home.proofs.HomeLaws.{position-below, homeIndex-by}
+use Rattle.home.proofs.home_index.Statement.{statement}
+use Rattle.home.proofs.home_index.Tie as tie
 
 abbrev Inv-loop : tie.InvT-loop
 Inv-loop image n count i₀ i = (i ≤ count) × (homeIndex image ≡ first (homeAt image) i (count - i))

@@ -6,9 +6,9 @@ use mathlib.Core.Bool.{true, not, _&&_, and-false}
 use denote.Ref.{now}
 use borrow.Author.Tests.{eq-eqb, ne-eqb}
 use lib.Dec.{eqb}
-use Rattle.volume.specs.Home.{hIbsz, hIblb, hFmax, hSbcl, hVlev}
-use Rattle.volume.proofs.home.has_home_fields.Statement.{statement}
-use Rattle.volume.proofs.home.has_home_fields.Tie as tie
+use Rattle.home.specs.Home.{hIbsz, hIblb, hFmax, hSbcl, hVlev}
+use Rattle.home.proofs.has_home_fields.Statement.{statement}
+use Rattle.home.proofs.has_home_fields.Tie as tie
 
 -- All but H.VLEV are a home block's.
 four : (c : tie.Else4)

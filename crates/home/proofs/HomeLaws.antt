@@ -9,7 +9,7 @@ use lib.ListN.{length}
 use Rattle.image.specs.Words.{wordAt}
 use Rattle.image.specs.First.{first, below}
 use Rattle.image.specs.Sums.{checksum}
-use Rattle.volume.specs.Home.{hIbsz, hIblb, hFmax, hSbcl, hVlev, labelAt, isHome, blocks, position, positions, homeAt, homeIndex}
+use Rattle.home.specs.Home.{hIbsz, hIblb, hFmax, hSbcl, hVlev, labelAt, isHome, blocks, position, positions, homeAt, homeIndex}
 
 -- Position i is 1 or 256 · i, and those that are counted lie below N.
 pub position-first : position 0 ≡ 1

@@ -6,9 +6,9 @@ use denote.Ref.{now}
 use borrow.Author.Tests.{not-true, not-false, eq-eqb, ne-eqb}
 use Rattle.image.specs.Words.{wordAt}
 use Rattle.image.specs.Sums.{checksum}
-use Rattle.volume.proofs.HomeLaws.{isHome-by}
-use Rattle.volume.proofs.home.is_home.Statement.{statement}
-use Rattle.volume.proofs.home.is_home.Tie as tie
+use Rattle.home.proofs.HomeLaws.{isHome-by}
+use Rattle.home.proofs.is_home.Statement.{statement}
+use Rattle.home.proofs.is_home.Tie as tie
 
 returns : tie.Need-returns
 returns c =

@@ -1,8 +1,8 @@
 -- The field is the word at byte 0.
 use borrow.Author.Needs.{needs}
-use Rattle.volume.specs.Home.{hIbsz}
-use Rattle.volume.proofs.home.h_ibsz.Statement.{statement}
-use Rattle.volume.proofs.home.h_ibsz.Tie as tie
+use Rattle.home.specs.Home.{hIbsz}
+use Rattle.home.proofs.h_ibsz.Statement.{statement}
+use Rattle.home.proofs.h_ibsz.Tie as tie
 
 returns : tie.Need-returns
 unfolding hIbsz

@@ -2,10 +2,10 @@
 use borrow.Author.Needs.{needs}
 use native.Mathlib.Omega.{arith}
 use mathlib.Core.Path.{ap}
-use Rattle.volume.specs.Home.{position}
-use Rattle.volume.proofs.HomeLaws.{position-first, position-later}
-use Rattle.volume.proofs.home.position.Statement.{statement}
-use Rattle.volume.proofs.home.position.Tie as tie
+use Rattle.home.specs.Home.{position}
+use Rattle.home.proofs.HomeLaws.{position-first, position-later}
+use Rattle.home.proofs.position.Statement.{statement}
+use Rattle.home.proofs.position.Tie as tie
 
 returns : tie.Need-returns
 returns c = omega (arith, position-first, ap position (c .if1 .taken))

@@ -9,13 +9,13 @@ ghost use mathlib.Core.Bool.{not, _&&_, _||_};
 ghost use lib.Dec.{eqb};
 ghost use lib.ListN.{length};
 ghost use Rattle.image.specs.First.{below};
-ghost use Rattle.volume.specs.Home.{hIbsz, hIblb, hFmax, hSbcl, hVlev, labelAt, isHome, position, homeIndex};
+ghost use Rattle.home.specs.Home.{hIbsz, hIblb, hFmax, hSbcl, hVlev, labelAt, isHome, position, homeIndex};
 
 // H.INDF of a home block.
 const LABEL: [u8; 12] = *b"DECFILE11A  ";
 
 // H.IBSZ.
-pub(crate) fn h_ibsz(b: &[u8]) -> u16
+pub fn h_ibsz(b: &[u8]) -> u16
     requires { ⌜ length (now b) ≡ 512 ⌝ }
     ensures { λ r. ⌜ r ≡ hIbsz (now (b .entry)) ⌝ }
 {
@@ -23,7 +23,7 @@ pub(crate) fn h_ibsz(b: &[u8]) -> u16
 }
 
 // H.IBLB, high word first.
-pub(crate) fn h_iblb(b: &[u8]) -> u32
+pub fn h_iblb(b: &[u8]) -> u32
     requires { ⌜ length (now b) ≡ 512 ⌝ }
     ensures { λ r. ⌜ r ≡ hIblb (now (b .entry)) ⌝ }
 {
@@ -33,7 +33,7 @@ pub(crate) fn h_iblb(b: &[u8]) -> u32
 }
 
 // H.FMAX.
-pub(crate) fn h_fmax(b: &[u8]) -> u16
+pub fn h_fmax(b: &[u8]) -> u16
     requires { ⌜ length (now b) ≡ 512 ⌝ }
     ensures { λ r. ⌜ r ≡ hFmax (now (b .entry)) ⌝ }
 {

@@ -1,8 +1,8 @@
 -- The field is the word at byte 6.
 use borrow.Author.Needs.{needs}
-use Rattle.volume.specs.Home.{hFmax}
-use Rattle.volume.proofs.home.h_fmax.Statement.{statement}
-use Rattle.volume.proofs.home.h_fmax.Tie as tie
+use Rattle.home.specs.Home.{hFmax}
+use Rattle.home.proofs.h_fmax.Statement.{statement}
+use Rattle.home.proofs.h_fmax.Tie as tie
 
 returns : tie.Need-returns
 unfolding hFmax

@@ -6,9 +6,9 @@ use denote.Ref.{now}
 use native.Mathlib.Omega.{arith}
 use native.Mathlib.Numerals.{add-one}
 use Rattle.image.specs.First.{below}
-use Rattle.volume.specs.Home.{label, labelAt}
-use Rattle.volume.proofs.home.is_labelled.Statement.{statement}
-use Rattle.volume.proofs.home.is_labelled.Tie as tie
+use Rattle.home.specs.Home.{label, labelAt}
+use Rattle.home.proofs.is_labelled.Statement.{statement}
+use Rattle.home.proofs.is_labelled.Tie as tie
 
 abbrev Inv-loop : tie.InvT-loop
 Inv-loop b same₀ i₀ same i = (i ≤ 12) × (same ≡ below i (labelAt b))
