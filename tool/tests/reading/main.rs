@@ -7,6 +7,7 @@ mod common;
 mod asked;
 mod directories;
 mod help;
+mod hub;
 mod listing;
 mod paths;
 mod refused;
