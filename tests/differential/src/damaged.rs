@@ -44,6 +44,26 @@ pub fn compare_damaged(
     subject.compare_facts(run, random, sound, Depth::SOME);
 }
 
+/// Changes a volume, which is told as `kind`, and compares it so.
+pub fn compare_changed(
+    run: &mut Run,
+    random: &mut Random,
+    (lender, desk): (&mut Lender, &mut Desk),
+    sound: &Volume,
+    (kind, change): (
+        &'static str,
+        impl FnOnce(&mut Random, &mut Volume) -> String,
+    ),
+) {
+    let mut damaged = sound.clone();
+    let told = change(random, &mut damaged);
+    let subject = Subject {
+        image: lender.lend(&damaged.image),
+        story: &[("volume", sound.describe()), (kind, told)],
+    };
+    compare_damaged(run, random, desk, sound, &subject);
+}
+
 /// One named damage of a volume: what the paper says of it, and the model. False where it does not
 /// apply.
 pub fn compare_named(

@@ -29,6 +29,14 @@ pub const REMOVED: &str = "removed ID";
 /// that header 1 maps, else 0.
 pub const CREATED_FAR: &str = "file created past header 1's part";
 
+/// The answers of each call on an image that is accepted. HEADER and CHAIN are not among them: the
+/// verdict has seen that no header and no link is bad.
+pub const ANSWERS: [(&str, &[u64]); 3] = [
+    ("create", &[0, 14, 16, 27]),
+    ("extend", &[0, 6, 7, 9, 10, 11, 16, 22, 23, 24, 25, 26]),
+    ("delete", &[0, 6, 7, 9, 10, 11, 16, 22]),
+];
+
 /// A list under way: the volume as it was built, the image as the calls have left it, and the IDs
 /// that calls are made with.
 pub struct List<'a> {

@@ -2,7 +2,7 @@
 //! against the model.
 
 use differential::asked::ids;
-use differential::damaged::{compare_damaged, compare_named, damage_together};
+use differential::damaged::{compare_changed, compare_damaged, compare_named, damage_together};
 use differential::facts::{expect_all_met, expect_each_met, Depth};
 use differential::images::{Asked, Subject, BAD_LINK, UNMET_TEST};
 use differential::judging::{Desk, OFFENCE};
@@ -13,6 +13,7 @@ use volumes::accident::{random_changes, random_image, random_length};
 use volumes::damage::{damages, volumes_to_damage, Checksums};
 use volumes::shapes::{random_volume, Size};
 use volumes::volume_v::{volume_v, READS};
+use volumes::Volume;
 
 /// Every named damage on many volumes, with checksums put right and left.
 #[test]
@@ -51,13 +52,11 @@ fn damages_together() {
         let mut desk = Desk::default();
         run.random_cases(4_000, |run, random| {
             let sound = random.pick(small);
-            let mut damaged = sound.clone();
-            let told = damage_together(random, &damages, &mut damaged);
-            let subject = Subject {
-                image: lender.lend(&damaged.image),
-                story: &[("volume", sound.describe()), ("damages", told)],
+            let change = |random: &mut Random, damaged: &mut Volume| {
+                damage_together(random, &damages, damaged)
             };
-            compare_damaged(run, random, &mut desk, sound, &subject);
+            let tools = (&mut lender, &mut desk);
+            compare_changed(run, random, tools, sound, ("damages", change));
         });
         run.expect_met("open_volume", [0, 2, 3, 4, 5], 50);
         run.expect_met("open_file", 7..=12, 20);
@@ -80,13 +79,8 @@ fn random_damages() {
                 Size::Small
             };
             let sound = random_volume(random, size);
-            let mut damaged = sound.clone();
-            let changes = random_changes(random, &mut damaged);
-            let subject = Subject {
-                image: lender.lend(&damaged.image),
-                story: &[("volume", sound.describe()), ("changes", changes)],
-            };
-            compare_damaged(run, random, &mut desk, &sound, &subject);
+            let tools = (&mut lender, &mut desk);
+            compare_changed(run, random, tools, &sound, ("changes", random_changes));
         });
         run.expect_met("open_volume", [0, 2, 3, 4, 5], 100);
         run.expect_met("open_file", [0].into_iter().chain(2..=12), 100);

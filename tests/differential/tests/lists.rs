@@ -2,7 +2,7 @@
 //! model, and after each list what demand 3 says.
 
 use differential::judging::Desk;
-use differential::lists::{List, KEPT, NAMED, REMOVED};
+use differential::lists::{List, ANSWERS, KEPT, NAMED, REMOVED};
 use differential::{Random, Run};
 use volumes::shapes::Size;
 use volumes::writable::random_volume_to_write;
@@ -31,14 +31,6 @@ fn compare_list(run: &mut Run, random: &mut Random, desk: &mut Desk, size: Size)
     meet_shape(run, &built);
     List::compare(run, random, desk, &built);
 }
-
-/// The answers of each call on an image that is accepted. HEADER and CHAIN are not among them: the
-/// verdict has seen that no header and no link is bad.
-const ANSWERS: [(&str, &[u64]); 3] = [
-    ("create", &[0, 14, 16, 27]),
-    ("extend", &[0, 6, 7, 9, 10, 11, 16, 22, 23, 24, 25, 26]),
-    ("delete", &[0, 6, 7, 9, 10, 11, 16, 22]),
-];
 
 /// Lists on volumes of 100 to 6,000 blocks, most of them small.
 #[test]

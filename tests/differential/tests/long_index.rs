@@ -2,20 +2,19 @@
 //! paper says of it, and those and random ones against the model.
 
 use differential::damaged::{
-    compare_damaged, compare_flawed, compare_named, damage_together, expect_flawed_met,
+    compare_changed, compare_flawed, compare_named, damage_together, expect_flawed_met,
 };
 use differential::facts::expect_all_met;
-use differential::images::{
-    Subject, BAD_FIRST_BLOCKS, BAD_HEADER_1, BAD_INDEX, BAD_LINK, UNMET_TEST,
-};
+use differential::images::{BAD_FIRST_BLOCKS, BAD_HEADER_1, BAD_INDEX, BAD_LINK, UNMET_TEST};
 use differential::judging::{offences, Desk, OFFENCE};
-use differential::Run;
+use differential::{Random, Run};
 use library::Lender;
 use volumes::accident::{random_changes, random_flaws, random_index_changes};
 use volumes::damage::{damages, long_index_damages, long_volumes_to_damage, Checksums, Damage};
 use volumes::flaw::{each_flawed_by, long_index_flaws, long_volumes_to_judge, tried_one_in};
 use volumes::long_index::random_long_volume;
 use volumes::shapes::Size;
+use volumes::Volume;
 
 /// The damages of any volume, and those of an index file with several headers.
 fn all_damages() -> Vec<Damage> {
@@ -77,13 +76,11 @@ fn damages_together() {
         let mut desk = Desk::default();
         run.random_cases(2_000, |run, random| {
             let sound = random.pick(small);
-            let mut damaged = sound.clone();
-            let told = damage_together(random, &damages, &mut damaged);
-            let subject = Subject {
-                image: lender.lend(&damaged.image),
-                story: &[("volume", sound.describe()), ("damages", told)],
+            let change = |random: &mut Random, damaged: &mut Volume| {
+                damage_together(random, &damages, damaged)
             };
-            compare_damaged(run, random, &mut desk, sound, &subject);
+            let tools = (&mut lender, &mut desk);
+            compare_changed(run, random, tools, sound, ("damages", change));
         });
         run.expect_met("open_volume", [0, 2, 3, 4, 5], 20);
         run.expect_met(BAD_INDEX, OTHER_LINKS, 5);
@@ -106,17 +103,15 @@ fn random_damages() {
                 Size::Small
             };
             let sound = random_long_volume(random, size);
-            let mut damaged = sound.clone();
-            let changes = if random.once_in(4) {
-                random_changes(random, &mut damaged)
-            } else {
-                random_index_changes(random, &mut damaged)
+            let change = |random: &mut Random, damaged: &mut Volume| {
+                if random.once_in(4) {
+                    random_changes(random, damaged)
+                } else {
+                    random_index_changes(random, damaged)
+                }
             };
-            let subject = Subject {
-                image: lender.lend(&damaged.image),
-                story: &[("volume", sound.describe()), ("changes", changes)],
-            };
-            compare_damaged(run, random, &mut desk, &sound, &subject);
+            let tools = (&mut lender, &mut desk);
+            compare_changed(run, random, tools, &sound, ("changes", change));
         });
         run.expect_met("open_volume", [2, 3, 5], 20);
         run.expect_met("open_volume", [0, 4], 1_000);
@@ -164,13 +159,8 @@ fn random_flaws_of_volumes() {
                 _ => Size::Small,
             };
             let sound = random_long_volume(random, size);
-            let mut changed = sound.clone();
-            let changes = random_flaws(random, &mut changed);
-            let subject = Subject {
-                image: lender.lend(&changed.image),
-                story: &[("volume", sound.describe()), ("changes", changes)],
-            };
-            compare_damaged(run, random, &mut desk, &sound, &subject);
+            let tools = (&mut lender, &mut desk);
+            compare_changed(run, random, tools, &sound, ("changes", random_flaws));
         });
         run.expect_met("judge", [0, 16, 17, 18, 19, 21], 80);
         run.expect_met("judge", [20], 3);

@@ -6,7 +6,7 @@ use differential::built::compare_built;
 use differential::facts::{expect_each_met, Depth};
 use differential::images::{Asked, Call, Subject};
 use differential::judging::Desk;
-use differential::lists::{List, CREATED_FAR, KEPT, NAMED, REMOVED};
+use differential::lists::{List, ANSWERS, CREATED_FAR, KEPT, NAMED, REMOVED};
 use differential::{Random, Run};
 use library::Lender;
 use model::{Id, Number};
@@ -269,13 +269,6 @@ fn the_longest_index_file() {
         run.expect_met("judge", [19], 2);
     });
 }
-
-/// The answers of each call on an image that is accepted.
-const ANSWERS: [(&str, &[u64]); 3] = [
-    ("create", &[0, 14, 16, 27]),
-    ("extend", &[0, 6, 7, 9, 10, 11, 16, 22, 23, 24, 25, 26]),
-    ("delete", &[0, 6, 7, 9, 10, 11, 16, 22]),
-];
 
 /// Lists of calls, most of them on small volumes.
 #[test]
