@@ -10,12 +10,11 @@ use lib.Seq.{getD-take, take-suc-set, length-take-le}
 use Rattle.image.specs.Words.{Bytes}
 use Rattle.header.specs.Fields.{segment, mEfnu}
 use Rattle.volume.specs.Volume.{slot, header, isNumber}
-use Rattle.file.specs.Chains.{chain, chainOf, every, linkOf, goodChain, IsFirst}
-use Rattle.file.proofs.NumberLaws.{segment-most}
-use Rattle.file.proofs.LinkLaws.{Linked, good-links}
-use Rattle.file.proofs.ChainLaws.{chain-end, chain-more, every-more}
-use Rattle.update.specs.Extend.{lastOf, lastNumber}
-use Rattle.update.specs.Delete.{slotsOf}
+use Rattle.chains.specs.Chains.{chain, chainOf, linkOf, goodChain, IsFirst, lastNumber, slotsOf}
+use Rattle.lists.specs.Lists.{every, lastOf}
+use Rattle.chains.proofs.NumberLaws.{segment-most}
+use Rattle.chains.proofs.LinkLaws.{Linked, good-links}
+use Rattle.chains.proofs.ChainLaws.{chain-end, chain-more, every-more}
 use Rattle.chains.specs.declared.Members.{Members}
 use Rattle.chains.specs.Members.{Lists}
 

@@ -3,8 +3,7 @@ use mathlib.Core.Path.{_≡_}
 use mathlib.Core.List.{List}
 use Prim.Native.Nat.{ℕ, _≤_}
 use lib.ListN.{length, take}
-use Rattle.file.specs.Chains.{chainOf}
-use Rattle.update.specs.Delete.{slotsOf}
+use Rattle.chains.specs.Chains.{chainOf, slotsOf}
 use Rattle.chains.specs.declared.Members.{Members}
 
 -- m lists the numbers of the headers of the file whose first header has number n, and the LBNs of their slots. 01, The header: "A chain thus ends within

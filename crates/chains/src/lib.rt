@@ -1,16 +1,24 @@
-// The headers of a file's chain, gathered once, so that a writer can store without walking headers that it has changed.
+// The chain of a file's headers: its links, its blocks, and its members.
 use answer::types::FileNumber;
 use answer::types::Lbn;
 use header::fields::m_efnu;
 use image::blocks::block;
-use volume::volume::Places;
-use volume::volume::Volume;
-use volume::volume::slot_at;
+use pointers::block_count;
+use pointers::lbn_in;
+use volume::Places;
+use volume::Slot;
+use volume::Volume;
+use volume::is_in_use;
+use volume::is_next;
+use volume::slot_at;
+use volume::slot_of;
 ghost use mathlib.Core.Path.{_≡_};
 ghost use mathlib.Core.Bool.{true};
-ghost use Rattle.volume.specs.Volume.{slot};
+ghost use Prim.Native.Nat.{_<_};
+ghost use lib.ListN.{length, getD};
+ghost use Rattle.volume.specs.Volume.{slot, header, isNumber};
 ghost use Rattle.volume.specs.Opening.{Recorded};
-ghost use Rattle.file.specs.Chains.{goodChain, IsFirst};
+ghost use Rattle.chains.specs.Chains.{goodChain, IsFirst, slotInUse, linkFrom, fileBlocks, chainBlocks};
 ghost use Rattle.chains.specs.Members.{Lists};
 
 // The numbers of a chain's headers and the LBNs of their slots, in the chain's order; what lies past the count says nothing.
@@ -45,5 +53,111 @@ pub fn members_of(image: &[u8], v: Volume, places: &Places, n: FileNumber, lbn: 
         let found = slot_at(image, v, places, FileNumber(next));
         number = next;
         at = found.0;
+    }
+}
+
+// Where the link of a header leads.
+pub enum Link {
+    // Nowhere: the header is the last of its chain.
+    End,
+    // To the header at this LBN.
+    To(Lbn),
+    Bad,
+}
+
+// What a chain comes to.
+pub enum Chain {
+    // Each link is good; how many blocks its headers cover.
+    Good(u32),
+    Bad,
+}
+
+// The slot of a number, if it is in use and has one.
+pub fn slot_in_use(image: &[u8], v: Volume, places: &Places, n: FileNumber) -> Slot
+    requires { ⌜ Recorded (now image) v (now places) ⌝ }
+    ensures { λ r. ⌜ r ≡ slotInUse (now (image .entry)) (n .0) ⌝ }
+{
+    let used = is_in_use(image, v, n);
+    if used {
+        slot_of(image, v, places, n)
+    } else {
+        Slot::Missing
+    }
+}
+
+// Where the link of header h leads.
+pub fn follow(image: &[u8], v: Volume, places: &Places, h: &[u8]) -> Link
+    requires { ⌜ Recorded (now image) v (now places) ⌝ }
+    ensures { λ r. ⌜ r ≡ linkFrom (now (image .entry)) (now (h .entry)) ⌝ }
+{
+    let n = m_efnu(h) as u32;
+    if n == 0 {
+        return Link::End;
+    }
+    let place = slot_in_use(image, v, places, FileNumber(n));
+    match place {
+        Slot::At(lbn) => {
+            let next = block(image, lbn.0);
+            if is_next(h, next, v.blocks, n) {
+                Link::To(lbn)
+            } else {
+                Link::Bad
+            }
+        }
+        Slot::Missing => Link::Bad,
+    }
+}
+
+// The header of a number that is in use and has a slot.
+pub fn header_of<'a>(image: &'a [u8], v: Volume, places: &Places, n: FileNumber) -> &'a [u8]
+    requires { ⌜ Recorded (now image) v (now places) × (isNumber (now image) (n .0) ≡ true) ⌝ }
+    ensures { λ r. ⌜ now r ≡ header (now (image .entry)) (n .0) ⌝ }
+{
+    block(image, slot_at(image, v, places, n).0)
+}
+
+// What the chain of the file whose first header has number n and lies at this LBN comes to, by one walk over its headers. Most headers have no link,
+// and that is seen without a call.
+pub fn chain_blocks(image: &[u8], v: Volume, places: &Places, n: FileNumber, lbn: Lbn) -> Chain
+    requires { ⌜ Recorded (now image) v (now places) × IsFirst (now image) (n .0) × (lbn .0 ≡ slot (now image) (n .0)) ⌝ }
+    ensures { λ r. ⌜ r ≡ chainBlocks (now (image .entry)) (n .0) ⌝ }
+{
+    let mut h = block(image, lbn.0);
+    let mut count: u32 = 0;
+    loop {
+        count += block_count(h);
+        if m_efnu(h) == 0 {
+            return Chain::Good(count);
+        }
+        let link = follow(image, v, places, h);
+        match link {
+            Link::End => {
+                return Chain::Good(count);
+            }
+            Link::To(next) => {
+                h = block(image, next.0);
+            }
+            Link::Bad => {
+                return Chain::Bad;
+            }
+        }
+    }
+}
+
+// The LBN of block i, from 0, of the file whose first header has number n and lies at this LBN, where each link of its chain is good. Headers before
+// the one that has the block are stepped over by how many blocks they cover.
+pub fn lbn_at(image: &[u8], v: Volume, places: &Places, n: FileNumber, lbn: Lbn, i: u32) -> Lbn
+    requires { ⌜ Recorded (now image) v (now places) × IsFirst (now image) (n .0) × (goodChain (now image) (n .0) ≡ true) × (i < length (fileBlocks (now image) (n .0))) × (lbn .0 ≡ slot (now image) (n .0)) ⌝ }
+    ensures { λ r. ⌜ r .0 ≡ getD (fileBlocks (now (image .entry)) (n .0)) i 0 ⌝ }
+{
+    let mut h = block(image, lbn.0);
+    let mut left = i;
+    loop {
+        let count = block_count(h);
+        if left < count {
+            return Lbn(lbn_in(h, left));
+        }
+        left -= count;
+        h = header_of(image, v, places, FileNumber(m_efnu(h) as u32));
     }
 }

@@ -11,23 +11,24 @@ use lib.ListN.{length, getD, length-append, List·getD-append}
 use lib.Seq.{getD-append-add}
 use Rattle.header.specs.Fields.{mEfnu}
 use Rattle.answer.specs.declared.outcome.Outcome.the-variants.{Passed}
-use Rattle.header.specs.Pointers.{Fits, blocksOf}
-use Rattle.header.specs.Whole.{fault}
-use Rattle.header.proofs.WholeLaws.{whole-is, whole-fits, whole-inside}
+use Rattle.pointers.specs.Pointers.{Fits, blocksOf}
+use Rattle.whole.specs.Whole.{fault}
+use Rattle.whole.proofs.WholeLaws.{whole-is, whole-fits, whole-inside}
 use Rattle.home.specs.Home.{blocks}
 use Rattle.volume.specs.Volume.{fmax, hasSlot, header, faultOf, inUse, isNumber}
 use Rattle.volume.specs.Opening.{openVolume}
 use Rattle.volume.proofs.VolumeLaws.{opens, header-length}
-use Rattle.file.specs.Chains.{goodLink, chain, chainOf, every, linkOf, goodChain, flat, fileBlocks}
-use Rattle.file.proofs.LinkLaws.{good-links}
-use Rattle.marks.specs.Counts.{count, In}
+use Rattle.chains.specs.Chains.{goodLink, chain, chainOf, linkOf, goodChain, flat, fileBlocks}
+use Rattle.lists.specs.Lists.{every}
+use Rattle.chains.proofs.LinkLaws.{good-links}
+use Rattle.lists.specs.Counts.{count, In}
 use Rattle.marks.specs.Marks.{raisedBy}
-use Rattle.marks.proofs.CountLaws.{count-none, count-append}
+use Rattle.lists.proofs.CountLaws.{count-none, count-append}
 use Rattle.marks.proofs.MarkLaws.{raisedBy-append}
 use Rattle.slots.specs.Slots.{gathered}
 use Rattle.slots.proofs.SlotLaws.{used-range}
-use Rattle.numbers.specs.Files.{files}
-use Rattle.numbers.proofs.FileLaws.{FilesPassed, files-passed}
+use Rattle.files.specs.Files.{files}
+use Rattle.files.proofs.FileLaws.{FilesPassed, files-passed}
 use Rattle.covers.specs.Covered.{Ends, covered}
 
 -- The pointers of a whole header end below the number of blocks, and so within an area that has a byte for each block.

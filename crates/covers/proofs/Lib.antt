@@ -1,3 +1,2 @@
 pub mod CoverLaws
 pub mod MarkedLaws
-pub mod RaiseLaws

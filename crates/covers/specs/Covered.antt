@@ -3,15 +3,15 @@ use mathlib.Core.Bool.{Bool, not, _&&_}
 use mathlib.Core.List.{List}
 use Prim.Native.Nat.{ℕ, _+_, _*_, _≤_, _<_}
 use lib.Dec.{eqb, leb, ltb}
+use Rattle.lists.specs.First.{first}
+use Rattle.lists.specs.Counts.{oneIf, count}
 use Rattle.image.specs.Bits.{bitAt}
-use Rattle.image.specs.First.{first}
 use Rattle.answer.specs.declared.refusal.Refusal.the-variants as refusal
 use Rattle.answer.specs.declared.outcome.Outcome.{Outcome}
 use Rattle.answer.specs.Outcome.{unless}
-use Rattle.header.specs.Pointers.{pointerLbn, pointerCount, pointersAt, pointers, blocksOf}
+use Rattle.pointers.specs.Pointers.{pointerLbn, pointerCount, pointersAt, pointers, blocksOf}
 use Rattle.home.specs.Home.{blocks}
-use Rattle.volume.specs.Volume.{fmax, mapBlocks, storageMap}
-use Rattle.marks.specs.Counts.{oneIf, count}
+use Rattle.volume.specs.Volume.{fmax, storageMap, mapBits}
 use Rattle.slots.specs.Slots.{gathered}
 
 -- The LBNs that the headers in use cover, each as often as it is covered. 01, Demand 3: "A block is mapped where it is covered by a pointer of a
@@ -33,10 +33,6 @@ twicePlace image = first (coveredTwice (covered image)) 0 (blocks image)
 
 unfoldable pub twice : List ℕ → Outcome
 twice image = unless (eqb (twicePlace image) (blocks image)) (refusal.Twice (twicePlace image))
-
--- How many bits the storage map of a volume of n blocks has.
-unfoldable pub mapBits : ℕ → ℕ
-mapBits n = 4096 * mapBlocks n
 
 -- 01, The verdict: "MAP: a map bit wrong, its bit number the place: below N set exactly if covered by none, from N on clear." Bit j of this map, with
 -- these covered LBNs, on a volume of n blocks.

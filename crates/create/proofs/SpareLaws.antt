@@ -6,8 +6,8 @@ use Prim.Native.Nat.{ℕ, _-_, _≤_, _<_}
 use native.Mathlib.Omega.{arith}
 use borrow.Author.Tests.{lt-leb, le-leb}
 use lib.Dec.{ltb}
-use Rattle.image.specs.First.{first}
-use Rattle.image.proofs.First.{first-is}
+use Rattle.lists.specs.First.{first}
+use Rattle.lists.proofs.FirstLaws.{first-is}
 use Rattle.header.specs.Fields.{hFseq}
 use Rattle.volume.specs.Volume.{slots, hasSlot, header, inUse}
 use Rattle.update.specs.Create.{isSpare}

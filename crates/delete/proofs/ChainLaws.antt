@@ -7,22 +7,22 @@ use native.Mathlib.Omega.{arith}
 use lib.ListN.{length, getD, take, length-take}
 use lib.Seq.{getD-take}
 use Rattle.image.specs.Blocks.{block}
-use Rattle.header.specs.Pointers.{blocksOf}
-use Rattle.header.proofs.WholeLaws.{whole-fits}
+use Rattle.pointers.specs.Pointers.{blocksOf}
+use Rattle.whole.proofs.WholeLaws.{whole-fits}
 use Rattle.home.specs.Home.{blocks}
 use Rattle.volume.specs.Volume.{ibsz, iblb, slot, slots, hasSlot, header, faultOf, inUse, isNumber, mapBlocks, base, volumeOf}
 use Rattle.volume.specs.Opening.{Laid}
-use Rattle.volume.specs.declared.volume.Volume.{Volume}
+use Rattle.volume.specs.declared.Volume.{Volume}
 use Rattle.volume.proofs.VolumeLaws.{slot-below, header-length, says, says-base}
-use Rattle.file.specs.Chains.{chainOf, flat, IsFirst}
-use Rattle.marks.specs.Counts.{In}
-use Rattle.marks.proofs.CountLaws.{count-at}
+use Rattle.chains.specs.Chains.{chainOf, flat, IsFirst, slotsOf}
+use Rattle.lists.specs.Counts.{In}
+use Rattle.lists.proofs.CountLaws.{count-at}
 use Rattle.slots.proofs.SlotLaws.{used-range}
 use Rattle.covers.proofs.CoverLaws.{whole-ends}
 use Rattle.sound.specs.Claims.{IsFile}
 use Rattle.sound.proofs.MemberLaws.{in-here, in-tail}
-use Rattle.update.specs.Writes.{putMapBits}
-use Rattle.update.specs.Delete.{indexBits, slotsOf, clearSlots, withoutNumbers}
+use Rattle.image.specs.Stores.{putMapBits}
+use Rattle.update.specs.Delete.{indexBits, clearSlots, withoutNumbers}
 use Rattle.update.proofs.Effects.{Good}
 use Rattle.update.proofs.FrameLaws.{slot-clear, numbers-fit}
 use Rattle.update.proofs.DeleteLaws.{index-fits, storage-fits, header-index, Deleting, delete-used, delete-known, delete-commute}

@@ -11,8 +11,8 @@ use Rattle.answer.specs.declared.outcome.Outcome.the-variants.{Passed, Refused}
 use Rattle.answer.specs.Outcome.{unless, _then_}
 use Rattle.answer.proofs.OutcomeLaws.{then-passed, then-refused}
 use Rattle.volume.specs.Opening.{openVolume}
-use Rattle.file.specs.Chains.{chainOf}
-use Rattle.file.specs.Opening.{find, access, chained, openFile}
+use Rattle.chains.specs.Chains.{chainOf}
+use Rattle.open_file.specs.Opening.{find, access, chained, openFile}
 use Rattle.verdict.specs.Verdict.{verdict, afterwards}
 use Rattle.update.specs.declared.answers.Deleted.the-variants as answers
 use Rattle.update.specs.Extend.{isKnownNumber}

@@ -7,17 +7,16 @@ use native.Mathlib.Omega.{arith}
 use lib.ListN.{length, getD, take, drop, take-append-drop}
 use lib.Seq.{length-take-le, take-suc, take-at, drop-at}
 use Rattle.image.specs.Blocks.{region, block}
-use Rattle.image.specs.Stores.{splice, putBits}
+use Rattle.image.specs.Stores.{splice, putBits, putBlock, putMapBits}
 use Rattle.image.proofs.StoreLaws.{part-splice}
 use Rattle.image.proofs.BitLaws.{putBits-none, putBits-append}
-use Rattle.header.specs.Pointers.{pointersAt, pointers, Fits, blocksOf}
-use Rattle.file.specs.Chains.{flat}
+use Rattle.pointers.specs.Pointers.{pointersAt, pointers, Fits, blocksOf}
+use Rattle.chains.specs.Chains.{flat}
 use Rattle.covers.specs.Covered.{Ends}
-use Rattle.edits.specs.Cleared.{clearedSlot}
-use Rattle.update.specs.Writes.{putBlock, putMapBits}
+use Rattle.header_edit.specs.Cleared.{clearedSlot}
 use Rattle.update.specs.Create.{indexBit}
 use Rattle.update.specs.Delete.{indexBits, clearSlots}
-use Rattle.update.proofs.WriteLaws.{bits-long, part-bits, putMapBits-map, putMapBits-length, putMapBits-outside}
+use Rattle.image.proofs.WriteLaws.{bits-long, part-bits, putMapBits-map, putMapBits-length, putMapBits-outside}
 use Rattle.delete.specs.Steps.{PointsInto, Freeable}
 
 -- The second of two runs that are written at one place is what is left.

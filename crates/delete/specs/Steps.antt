@@ -3,7 +3,7 @@ use mathlib.Core.List.{List}
 use Prim.Native.Nat.{ℕ, _+_, _*_, _≤_, _<_}
 use lib.ListN.{length, getD}
 use Rattle.image.specs.Blocks.{block}
-use Rattle.header.specs.Pointers.{pointerLbn, pointerCount, Fits}
+use Rattle.pointers.specs.Pointers.{pointerLbn, pointerCount, Fits}
 use Rattle.covers.specs.Covered.{Ends}
 
 -- Each of the first `count` numbers has a bit in an index map of q blocks. 01, Index file: "index map bit n−1".

@@ -1,20 +1,20 @@
 // The three steps of delete, over the numbers and the slots of a chain that were gathered before.
-use edits::cleared::clear_slot;
-use header::pointers::first_pointer;
-use header::pointers::pointer_count;
-use header::pointers::pointer_lbn;
-use header::pointers::pointer_number;
+use header_edit::clear_slot;
 use image::blocks::block;
-use maps::put_map_bit;
-use maps::put_map_run;
+use pointers::first_pointer;
+use pointers::pointer_count;
+use pointers::pointer_lbn;
+use pointers::pointer_number;
+use stores::put_map_bit;
+use stores::put_map_run;
 ghost use mathlib.Core.Path.{_≡_};
 ghost use Prim.Native.Nat.{_+_, _*_, _≤_};
 ghost use lib.ListN.{length, take};
 ghost use Rattle.image.specs.Blocks.{block};
-ghost use Rattle.header.specs.Pointers.{run, blocksOf};
-ghost use Rattle.file.specs.Chains.{flat};
-ghost use Rattle.edits.specs.Cleared.{clearedSlot};
-ghost use Rattle.update.specs.Writes.{putBlock, putMapBits};
+ghost use Rattle.pointers.specs.Pointers.{run, blocksOf};
+ghost use Rattle.chains.specs.Chains.{flat};
+ghost use Rattle.header_edit.specs.Cleared.{clearedSlot};
+ghost use Rattle.image.specs.Stores.{putBlock, putMapBits};
 ghost use Rattle.update.specs.Delete.{indexBits, clearSlots};
 ghost use Rattle.delete.specs.Steps.{HaveBits, PointsInto, Freeable, AllFreeable, AllInside};
 

@@ -1,27 +1,30 @@
 -- Laws of a search among the records of some blocks.
-use mathlib.Core.Path.{_≡_, sym, _∙_}
+use mathlib.Core.Path.{_≡_, sym, _∙_, refl}
 use mathlib.Core.List.{List}
 use Prim.Native.Nat.{ℕ, _+_, _*_, _-_, _/_, _%_, min, _≤_, _<_}
 use native.Mathlib.Decide.{decLt}
 use native.Mathlib.Omega.{arith}
 use lib.ListN.{length, getD}
-use Rattle.image.specs.Stores.{numbersFrom}
-use Rattle.image.proofs.Numbers.{numbersFrom-length, numbersFrom-at}
+use Rattle.lists.specs.Lists.{numbersFrom}
+use Rattle.lists.proofs.NumbersLaws.{numbersFrom-length, numbersFrom-at}
+use Rattle.lists.specs.First.{first}
+use Rattle.lists.proofs.FirstLaws.{first-has, first-none, first-found, first-past, first-shift, first-same}
 use Rattle.image.specs.Blocks.{region}
 use Rattle.image.proofs.BlockLaws.{block-region}
-use Rattle.image.specs.First.{first}
-use Rattle.image.proofs.First.{first-has, first-none, first-found, first-past, first-shift, first-same}
-use Rattle.header.specs.Pointers.{pointerLbn, pointerCount, runs, pointersAt, pointers, blocksOf}
-use Rattle.home.specs.Home.{blocks}
-use Rattle.header.proofs.PointerLaws.{runs-length, runs-le, runs-at}
-use Rattle.header.proofs.WholeLaws.{whole-is}
-use Rattle.volume.specs.Volume.{header, faultOf}
-use Rattle.file.specs.Chains.{fileBlocks}
-use Rattle.file.proofs.ChainLaws.{Walk, walk-inside, walk-here}
+use Rattle.pointers.specs.Pointers.{pointerLbn, pointerCount, runs, pointersAt, pointers, blocksOf}
+use Rattle.pointers.proofs.PointerLaws.{runs-length, runs-le, runs-at}
+use Rattle.whole.proofs.WholeLaws.{whole-is}
 use Rattle.records.specs.Records.{wantedIn}
 use Rattle.records.proofs.RecordLaws.{record-block}
 use Rattle.records.specs.declared.Wanted.{Wanted}
-use Rattle.directory.specs.Search.{entryAt, wantedAt, searchIn, Inside}
+use Rattle.home.specs.Home.{blocks}
+use Rattle.volume.specs.Volume.{header, faultOf}
+use Rattle.volume.specs.declared.Volume.{Volume}
+use Rattle.volume.proofs.VolumeLaws.{opens}
+use Rattle.chains.specs.Chains.{fileBlocks}
+use Rattle.chains.proofs.ChainLaws.{Walk, walk-inside, walk-here}
+use Rattle.chains.proofs.SizeLaws.{file-below}
+use Rattle.directory.specs.Search.{entryAt, wantedAt, searchIn, Inside, recordCount, FileOpen}
 
 -- The blocks of part stand in the list lbns from place k on.
 pub record Part (lbns : List ℕ) (k : ℕ) (part : List ℕ) : Type 0 where
@@ -132,3 +135,14 @@ module _ (image lbns : List ℕ) (k : ℕ) (part : List ℕ) (p : Part lbns k pa
 
   pub search-turn : (size : ℕ) → length part ≡ size → Turn image lbns w from to start size r
   search-turn size e = record { here = λ h. found-here (omega arith); on = λ h. goes-on (omega arith) }
+
+pub block-inside : (image : List ℕ) (v : Volume) (at : List ℕ) (n : ℕ) → FileOpen image v at n → (i : ℕ) → i < length (fileBlocks image n) → 512 * getD (fileBlocks image n) i 0 + 512 ≤ length image
+block-inside image v at n (o, first, good) i l = omega (arith, opens image (o .0) .size, file-below image n first good i l)
+
+-- The directory's records lie in its blocks.
+pub records-count : (image : List ℕ) (n : ℕ) → recordCount image n ≡ 32 * length (fileBlocks image n)
+unfolding recordCount
+records-count image n = refl
+
+pub records-inside : (image : List ℕ) (n : ℕ) → recordCount image n ≤ 32 * length (fileBlocks image n)
+records-inside image n = omega (arith, records-count image n)

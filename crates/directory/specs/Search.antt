@@ -4,16 +4,16 @@ use mathlib.Core.Bool.{Bool, true}
 use mathlib.Core.List.{List}
 use Prim.Native.Nat.{ℕ, _+_, _*_, _-_, _/_, _%_, min, _≤_, _<_}
 use lib.ListN.{length, getD}
+use Rattle.lists.specs.First.{first}
 use Rattle.image.specs.Blocks.{block}
-use Rattle.image.specs.First.{first}
-use Rattle.header.specs.Pointers.{pointerLbn, pointerCount, pointersAt, pointers}
-use Rattle.home.specs.Home.{blocks}
-use Rattle.volume.specs.Opening.{Recorded}
-use Rattle.volume.specs.declared.volume.Volume.{Volume}
-use Rattle.file.specs.Chains.{goodChain, IsFirst, fileBlocks}
+use Rattle.pointers.specs.Pointers.{pointerLbn, pointerCount, pointersAt, pointers}
 use Rattle.records.specs.Records.{recordIn, entryOf, isWanted}
 use Rattle.records.specs.declared.Entry.{Entry}
 use Rattle.records.specs.declared.Wanted.{Wanted}
+use Rattle.home.specs.Home.{blocks}
+use Rattle.volume.specs.Opening.{Recorded}
+use Rattle.volume.specs.declared.Volume.{Volume}
+use Rattle.chains.specs.Chains.{goodChain, IsFirst, fileBlocks}
 
 -- 01, Names and directories: "Every mapped block holds 32 records." Record r, from 0, of the blocks in a list of LBNs, "in VBN order".
 unfoldable pub entryAt : List ℕ → List ℕ → ℕ → Entry
@@ -38,3 +38,11 @@ Inside image h = (p : ℕ) → p < pointers h → pointerLbn h (pointersAt h + 4
 -- 01, The work and its edge: "Every call on a volume opens it first". The image opens as v, and so does the file whose first header has number n.
 abbrev pub FileOpen : List ℕ → Volume → List ℕ → ℕ → Type 0
 FileOpen image v at n = Recorded image v at × IsFirst image n × (goodChain image n ≡ true)
+
+-- The first record wanted from a place on, of the directory whose first header has number n; not below the record count where there is none.
+unfoldable pub firstWanted : List ℕ → ℕ → Wanted → ℕ → ℕ
+firstWanted image n w place = first (wantedAt image (fileBlocks image n) w) place (recordCount image n - place)
+
+-- The entry in record r of the directory.
+unfoldable pub entryOfFile : List ℕ → ℕ → ℕ → Entry
+entryOfFile image n r = entryAt image (fileBlocks image n) r

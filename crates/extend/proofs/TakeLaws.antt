@@ -6,21 +6,22 @@ use Prim.Native.Nat.{ℕ, _+_, _≤_, _<_}
 use native.Mathlib.Omega.{arith}
 use borrow.Author.Tests.{leb-true}
 use Rattle.image.specs.Blocks.{block}
-use Rattle.image.specs.Stores.{numbersFrom}
+use Rattle.lists.specs.Lists.{numbersFrom}
 use Rattle.answer.specs.declared.types.FileId.{FileId}
 use Rattle.header.specs.Fields.{mUse, mMax}
-use Rattle.header.proofs.WholeLaws.{whole-is}
+use Rattle.whole.proofs.WholeLaws.{whole-is}
 use Rattle.home.specs.Home.{blocks}
 use Rattle.volume.specs.Volume.{slot, header, faultOf, inUse, mapBlocks, base}
 use Rattle.volume.proofs.VolumeLaws.{Opens, slot-below, base-fits}
 use Rattle.slots.proofs.SlotLaws.{used-range}
 use Rattle.sound.proofs.ChainLaws.{member-used}
-use Rattle.edits.specs.Extended.{extendedHeader}
-use Rattle.update.specs.Writes.{putBlock, putMapBits}
-use Rattle.update.specs.Extend.{hasRoom, lastNumber, runStart, withBlocks}
+use Rattle.header_edit.specs.Extended.{extendedHeader}
+use Rattle.image.specs.Stores.{putBlock, putMapBits}
+use Rattle.update.specs.Extend.{hasRoom, runStart, withBlocks}
+use Rattle.chains.specs.Chains.{lastNumber}
 use Rattle.update.proofs.Effects.{Good}
 use Rattle.update.proofs.FrameLaws.{slot-clear}
-use Rattle.update.proofs.WriteLaws.{putMapBits-outside}
+use Rattle.image.proofs.WriteLaws.{putMapBits-outside}
 use Rattle.update.proofs.ExtendLaws.{count-range, run-fits}
 use Rattle.update.proofs.PassedLaws.{ExtendPassed}
 use Rattle.update.proofs.LastLaws.{last-member}

@@ -17,13 +17,14 @@ use Rattle.header.specs.Fields.{userFlags}
 use Rattle.home.specs.Home.{blocks}
 use Rattle.volume.specs.Volume.{slot, header, storageMap}
 use Rattle.volume.specs.Opening.{openVolume}
-use Rattle.file.specs.Opening.{hasFlag, find, access, chained, openFile}
+use Rattle.open_file.specs.Opening.{hasFlag, find, access, chained, openFile}
 use Rattle.verdict.specs.Verdict.{verdict}
 use Rattle.runs.specs.declared.Start.{Start}
 use Rattle.runs.specs.declared.Start.the-variants as starts
 use Rattle.runs.specs.Runs.{startOf}
 use Rattle.update.specs.declared.answers.Extended.the-variants as answers
-use Rattle.update.specs.Extend.{isKnownNumber, isFixed, isCount, hasRoom, lastNumber, runStart, hasRun, extendOutcome, extended, extendTests}
+use Rattle.update.specs.Extend.{isKnownNumber, isFixed, isCount, hasRoom, runStart, hasRun, extendOutcome, extended, extendTests}
+use Rattle.chains.specs.Chains.{lastNumber}
 use Rattle.extend.specs.declared.plan.Plan.{Plan}
 use Rattle.extend.specs.declared.plan.Plan.the-variants as plan
 use Rattle.extend.specs.Tests.{planned}

@@ -1,19 +1,20 @@
 // Extend.
 use crate::plan::Plan;
 use crate::plan::plan_on;
-use crate::stores::take;
+use crate::taking::take;
 use answer::outcome::Outcome;
 use answer::types::FileId;
 use update::answers::Extended;
 use verdict::judging::judge_volume;
-use volume::volume::Places;
-use volume::volume::Volume;
+use volume::Places;
+use volume::Volume;
 ghost use mathlib.Core.Path.{_≡_};
 ghost use lib.ListN.{length};
 ghost use Rattle.volume.specs.Opening.{Recorded};
 ghost use Rattle.verdict.specs.Verdict.{afterwards, headerMarks, blockMarks};
 ghost use Rattle.sound.specs.Sound.{Sound};
-ghost use Rattle.update.specs.Extend.{lastNumber, runStart, extended, extendAnswer, withBlocks, extendImage, extendTests};
+ghost use Rattle.chains.specs.Chains.{lastNumber};
+ghost use Rattle.update.specs.Extend.{runStart, extended, extendAnswer, withBlocks, extendImage, extendTests};
 
 // Extend on a volume that is judged.
 pub fn extend_on(image: &mut [u8], v: Volume, places: &Places, id: FileId, c: u32) -> Extended

@@ -2,4 +2,4 @@
 
 pub mod extend;
 pub mod plan;
-pub mod stores;
+pub mod taking;

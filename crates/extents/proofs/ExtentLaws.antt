@@ -15,12 +15,12 @@ use Rattle.answer.specs.declared.outcome.Outcome.{Outcome}
 use Rattle.answer.specs.declared.outcome.Outcome.the-variants as outcome
 use Rattle.answer.specs.Outcome.{unless, _then_}
 use Rattle.answer.proofs.OutcomeLaws.{passed-then, passed-last}
-use Rattle.file.specs.declared.mapping.Mapped.{Mapped}
-use Rattle.file.specs.declared.mapping.Mapped.the-variants as maps
-use Rattle.file.specs.Chains.{fileBlocks}
-use Rattle.file.specs.Opening.{openFile}
-use Rattle.file.specs.Mapping.{hasVbn, lbnOf, findVbn, mapped, mapAnswer}
-use Rattle.file.proofs.MappingLaws.{map-done}
+use Rattle.mapping.specs.declared.Mapped.{Mapped}
+use Rattle.mapping.specs.declared.Mapped.the-variants as maps
+use Rattle.chains.specs.Chains.{fileBlocks}
+use Rattle.open_file.specs.Opening.{openFile}
+use Rattle.mapping.specs.Mapping.{hasVbn, lbnOf, findVbn, mapped, mapAnswer}
+use Rattle.mapping.proofs.MappingLaws.{map-done}
 use Rattle.extents.specs.declared.Extent.{Extent}
 use Rattle.extents.specs.declared.Extent.the-variants.{Done, Refused}
 use Rattle.extents.specs.Extents.{rowLength, extentFrom, extentAnswer}

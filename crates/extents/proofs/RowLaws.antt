@@ -11,16 +11,16 @@ use lib.Dec.{eqb}
 use lib.ListN.{length, getD, take, length-append, List·getD-append}
 use lib.Seq.{getD-append-add, take-all}
 use Rattle.image.specs.Words.{Bytes}
-use Rattle.image.specs.Stores.{numbersFrom}
-use Rattle.image.proofs.First.{Is, first-has, first-is}
-use Rattle.image.proofs.Numbers.{numbersFrom-length, numbersFrom-at}
+use Rattle.lists.specs.Lists.{numbersFrom}
+use Rattle.lists.proofs.FirstLaws.{Is, first-has, first-is}
+use Rattle.lists.proofs.NumbersLaws.{numbersFrom-length, numbersFrom-at}
 use Rattle.answer.specs.declared.types.Lbn.{Lbn}
 use Rattle.header.specs.Fields.{mEfnu}
-use Rattle.header.specs.Pointers.{pointerLbn, pointerCount, run, runs, blocksOf}
-use Rattle.header.proofs.PointerLaws.{runs-none, runs-more}
+use Rattle.pointers.specs.Pointers.{pointerLbn, pointerCount, run, runs, blocksOf}
+use Rattle.pointers.proofs.PointerLaws.{runs-none, runs-more}
 use Rattle.volume.specs.Volume.{header}
-use Rattle.file.specs.Chains.{goodLink, fileBlocks}
-use Rattle.file.proofs.ChainLaws.{Walk, walk-take, walk-end-length, walk-next}
+use Rattle.chains.specs.Chains.{goodLink, fileBlocks}
+use Rattle.chains.proofs.ChainLaws.{Walk, walk-take, walk-end-length, walk-next}
 use Rattle.extents.specs.declared.rows.Row.{Row}
 use Rattle.extents.specs.declared.rows.Row.the-variants.{Ahead, Open, Ended}
 use Rattle.extents.specs.Extents.{breaks, rowLength, rowIn, carriedOn, Carries}

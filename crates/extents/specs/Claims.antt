@@ -5,8 +5,8 @@ use Prim.Native.Nat.{ℕ, _+_, _<_}
 use Rattle.answer.specs.declared.types.FileId.{FileId}
 use Rattle.answer.specs.declared.types.Lbn.{Lbn}
 use Rattle.answer.specs.declared.refusal.Refusal.{Refusal}
-use Rattle.file.specs.Mapping.{mapAnswer}
-use Rattle.file.specs.declared.mapping.Mapped.the-variants as mapped
+use Rattle.mapping.specs.Mapping.{mapAnswer}
+use Rattle.mapping.specs.declared.Mapped.the-variants as mapped
 use Rattle.extents.specs.Extents.{extentAnswer}
 use Rattle.extents.specs.declared.Extent.the-variants as extents
 

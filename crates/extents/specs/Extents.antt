@@ -5,13 +5,13 @@ use mathlib.Core.List.{List, _++_}
 use Prim.Native.Nat.{ℕ, _+_, _-_}
 use lib.Dec.{eqb, leb, ltb}
 use lib.ListN.{length, getD}
-use Rattle.image.specs.First.{first}
+use Rattle.lists.specs.First.{first}
 use Rattle.answer.specs.declared.types.FileId.{FileId}
 use Rattle.answer.specs.declared.outcome.Outcome.{Outcome}
 use Rattle.answer.specs.declared.outcome.Outcome.the-variants as outcome
-use Rattle.header.specs.Pointers.{blocksOf}
-use Rattle.file.specs.Chains.{fileBlocks}
-use Rattle.file.specs.Mapping.{lbnOf, findVbn}
+use Rattle.pointers.specs.Pointers.{blocksOf}
+use Rattle.chains.specs.Chains.{fileBlocks}
+use Rattle.mapping.specs.Mapping.{lbnOf, findVbn}
 use Rattle.extents.specs.declared.Extent.{Extent}
 use Rattle.extents.specs.declared.Extent.the-variants as extents
 use Rattle.extents.specs.declared.rows.Row.{Row}

@@ -7,7 +7,7 @@ use answer::types::FileId;
 use answer::types::FileNumber;
 use answer::types::Lbn;
 use answer::types::Vbn;
-use file::opening::open;
+use open_file::open;
 ghost use mathlib.Core.Path.{_≡_};
 ghost use Rattle.extents.specs.Extents.{extentAnswer};
 ghost use Rattle.extents.specs.Claims.{ExtentsMap};

@@ -1,22 +1,22 @@
 // Rows of blocks: found by one walk over a file's retrieval pointers, in order.
 use answer::types::FileNumber;
 use answer::types::Lbn;
-use file::chains::header_of;
+use chains::header_of;
 use header::fields::m_efnu;
-use header::pointers::first_pointer;
-use header::pointers::pointer_count;
-use header::pointers::pointer_lbn;
-use header::pointers::pointer_number;
 use image::blocks::block;
-use volume::volume::Places;
-use volume::volume::Volume;
+use pointers::first_pointer;
+use pointers::pointer_count;
+use pointers::pointer_lbn;
+use pointers::pointer_number;
+use volume::Places;
+use volume::Volume;
 ghost use mathlib.Core.Path.{_≡_};
 ghost use mathlib.Core.Bool.{true};
 ghost use Prim.Native.Nat.{_<_, _≤_, _^_};
-ghost use Rattle.header.specs.Pointers.{Fits};
+ghost use Rattle.pointers.specs.Pointers.{Fits};
 ghost use Rattle.volume.specs.Volume.{slot};
 ghost use Rattle.volume.specs.Opening.{Recorded};
-ghost use Rattle.file.specs.Chains.{goodChain, IsFirst, fileBlocks};
+ghost use Rattle.chains.specs.Chains.{goodChain, IsFirst, fileBlocks};
 ghost use Rattle.extents.specs.Extents.{rowIn, carriedOn, Carries};
 
 // What the pointers walked so far tell of the row from a place on.

@@ -2,16 +2,16 @@
 use Prim.Native.Nat.{ℕ}
 use mathlib.Core.List.{List, [], _∷_}
 use Rattle.answer.specs.Words.{doneWords, refusedWords}
-use Rattle.facts.specs.declared.volumes.Laid.{Laid}
-use Rattle.facts.specs.declared.volumes.Laid.the-variants as laid
-use Rattle.facts.specs.declared.volumes.Labelled.{Labelled}
-use Rattle.facts.specs.declared.volumes.Labelled.the-variants as labelled
-use Rattle.facts.specs.declared.headers.Shown.{Shown}
-use Rattle.facts.specs.declared.headers.Shown.the-variants as shown
-use Rattle.facts.specs.declared.headers.Pointed.{Pointed}
-use Rattle.facts.specs.declared.headers.Pointed.the-variants as pointed
-use Rattle.facts.specs.declared.files.Described.{Described}
-use Rattle.facts.specs.declared.files.Described.the-variants as described
+use Rattle.volume_facts.specs.declared.Laid.{Laid}
+use Rattle.volume_facts.specs.declared.Laid.the-variants as laid
+use Rattle.volume_facts.specs.declared.Labelled.{Labelled}
+use Rattle.volume_facts.specs.declared.Labelled.the-variants as labelled
+use Rattle.header_facts.specs.declared.Shown.{Shown}
+use Rattle.header_facts.specs.declared.Shown.the-variants as shown
+use Rattle.header_facts.specs.declared.Pointed.{Pointed}
+use Rattle.header_facts.specs.declared.Pointed.the-variants as pointed
+use Rattle.file_facts.specs.declared.Described.{Described}
+use Rattle.file_facts.specs.declared.Described.the-variants as described
 use Rattle.extents.specs.declared.Extent.{Extent}
 use Rattle.extents.specs.declared.Extent.the-variants as extents
 use Rattle.free.specs.declared.Free.{Free}

@@ -3,12 +3,12 @@
 use answer::words::put_done;
 use answer::words::put_refused;
 use extents::Extent;
-use facts::files::Described;
-use facts::headers::Pointed;
-use facts::headers::Shown;
-use facts::volumes::Labelled;
-use facts::volumes::Laid;
+use file_facts::Described;
 use free::Free;
+use header_facts::Pointed;
+use header_facts::Shown;
+use volume_facts::Labelled;
+use volume_facts::Laid;
 ghost use mathlib.Core.Path.{_≡_};
 ghost use Rattle.fact_words.specs.Words.{laidWords, labelledWords, shownWords, pointedWords, describedWords, extentWords, freeWords};
 

@@ -4,7 +4,7 @@ use mathlib.Core.List.{List}
 use Prim.Native.Nat.{ℕ, _+_, _-_, _≤_, _<_}
 use borrow.Author.Tests.{eq-eqb, ne-eqb, lt-ltb, le-ltb}
 use Rattle.image.specs.Bits.{bitAt}
-use Rattle.image.proofs.First.{first-here, first-on, first-none, first-has}
+use Rattle.lists.proofs.FirstLaws.{first-here, first-on, first-none, first-has}
 use Rattle.answer.specs.declared.refusal.Refusal.{Refusal}
 use Rattle.answer.specs.declared.refusal.Refusal.the-variants as refusal
 use Rattle.answer.specs.declared.outcome.Outcome.the-variants as outcome

@@ -1,5 +1,3 @@
-// One file header, on its own 512 bytes: its fields, whether it is whole, its retrieval pointers and the blocks that they cover.
+// One file header, on its own 512 bytes: its fields.
 
 pub mod fields;
-pub mod pointers;
-pub mod whole;

@@ -13,8 +13,8 @@ use Rattle.home.specs.Home.{blocks}
 use Rattle.volume.specs.Volume.{slots, header, inUse}
 use Rattle.volume.proofs.VolumeLaws.{fmax-below}
 use Rattle.sound.proofs.ChainLaws.{member-used}
-use Rattle.edits.specs.Fresh.{freshHeader}
-use Rattle.edits.proofs.FreshLaws.{fresh-is}
+use Rattle.fresh_header.specs.Fresh.{freshHeader}
+use Rattle.fresh_header.proofs.FreshLaws.{fresh-is}
 use Rattle.update.specs.Create.{freeNumber, newSequence, createOutcome, withFile, withNumber}
 use Rattle.update.proofs.Effects.{Good}
 use Rattle.update.proofs.FrameLaws.{volume-same, record-same, slots-same, header-same, opens-after, kept}

@@ -11,11 +11,11 @@ use Rattle.answer.specs.declared.types.FileId.{FileId}
 use Rattle.answer.specs.declared.outcome.Outcome.the-variants.{Passed}
 use Rattle.header.specs.Fields.{hFseq}
 use Rattle.volume.specs.Volume.{slot, slots, header, inUse}
-use Rattle.file.specs.Chains.{chainOf}
-use Rattle.marks.specs.Counts.{count, In}
+use Rattle.chains.specs.Chains.{chainOf}
+use Rattle.lists.specs.Counts.{count, In}
 use Rattle.sound.specs.Claims.{IsFile}
 use Rattle.sound.proofs.ChainLaws.{chains-apart}
-use Rattle.edits.proofs.ClearedLaws.{cleared-fseq}
+use Rattle.header_edit.proofs.ClearedLaws.{cleared-fseq}
 use Rattle.update.specs.Delete.{deleteOutcome, withoutNumbers}
 use Rattle.update.proofs.Effects.{Good}
 use Rattle.update.proofs.FrameLaws.{volume-same, record-same, slots-same, header-same, opens-after, kept}

@@ -10,11 +10,11 @@ use Rattle.answer.specs.declared.types.FileId.{FileId}
 use Rattle.answer.specs.declared.outcome.Outcome.the-variants.{Passed}
 use Rattle.header.specs.Fields.{hFseq}
 use Rattle.volume.specs.Volume.{slots, header}
-use Rattle.file.specs.Chains.{chainOf}
-use Rattle.marks.specs.Counts.{In}
+use Rattle.chains.specs.Chains.{chainOf, lastNumber}
+use Rattle.lists.specs.Counts.{In}
 use Rattle.sound.specs.Claims.{IsFile}
 use Rattle.sound.proofs.ChainLaws.{member-used, chains-apart}
-use Rattle.update.specs.Extend.{lastNumber, runStart, extendOutcome, withBlocks}
+use Rattle.update.specs.Extend.{runStart, extendOutcome, withBlocks}
 use Rattle.update.proofs.Effects.{Good}
 use Rattle.update.proofs.FrameLaws.{volume-same, record-same, slots-same, header-same, opens-after, kept}
 use Rattle.update.proofs.PassedLaws.{ExtendPassed, extend-passed}

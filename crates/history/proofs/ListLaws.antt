@@ -11,8 +11,8 @@ use Rattle.header.specs.Fields.{hFseq, segment}
 use Rattle.home.specs.Home.{blocks}
 use Rattle.volume.specs.Volume.{fmax, slots, header, volumeOf, placesOf}
 use Rattle.volume.proofs.VolumeLaws.{opens, opens-all}
-use Rattle.file.specs.Chains.{fileBlocks}
-use Rattle.marks.proofs.CountLaws.{count-at}
+use Rattle.chains.specs.Chains.{fileBlocks}
+use Rattle.lists.proofs.CountLaws.{count-at}
 use Rattle.sound.specs.Claims.{IsFile}
 use Rattle.sound.proofs.ExactLaws.{exact}
 use Rattle.update.proofs.Effects.{Good}

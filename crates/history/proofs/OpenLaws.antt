@@ -15,10 +15,11 @@ use Rattle.header.specs.Fields.{hFseq}
 use Rattle.volume.specs.Volume.{slots, hasSlot, header, inUse, isNumber}
 use Rattle.volume.specs.Opening.{openVolume}
 use Rattle.volume.proofs.VolumeLaws.{opens-all}
-use Rattle.file.specs.Chains.{chainOf, every, linkOf, goodChain}
-use Rattle.file.specs.Opening.{find, locked, access, chained, openFile}
-use Rattle.file.proofs.OpeningLaws.{find-number, find-sequence, find-passed, chained-passed}
-use Rattle.marks.specs.Counts.{In}
+use Rattle.chains.specs.Chains.{chainOf, linkOf, goodChain}
+use Rattle.lists.specs.Lists.{every}
+use Rattle.open_file.specs.Opening.{find, locked, access, chained, openFile}
+use Rattle.open_file.proofs.OpeningLaws.{find-number, find-sequence, find-passed, chained-passed}
+use Rattle.lists.specs.Counts.{In}
 use Rattle.sound.specs.Claims.{IsFile}
 use Rattle.sound.proofs.MemberLaws.{in-here, in-tail}
 use Rattle.sound.proofs.ChainLaws.{chain-first, member-used}

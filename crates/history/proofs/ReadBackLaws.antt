@@ -7,19 +7,19 @@ use native.Mathlib.Omega.{arith}
 use native.Mathlib.Decide.{ℕ-discrete, decLt}
 use lib.ListN.{length}
 use lib.ListN.{length-append}
-use Rattle.image.specs.Stores.{numbersFrom}
-use Rattle.image.proofs.Numbers.{numbersFrom-length}
+use Rattle.lists.specs.Lists.{numbersFrom}
+use Rattle.lists.proofs.NumbersLaws.{numbersFrom-length}
 use Rattle.answer.specs.declared.types.FileId.{FileId}
 use Rattle.answer.specs.declared.types.Lbn.{Lbn}
 use Rattle.answer.specs.declared.outcome.Outcome.{Outcome}
 use Rattle.answer.specs.declared.outcome.Outcome.the-variants.{Passed, Refused}
 use Rattle.header.specs.Fields.{hFseq, userFlags, systemFlags, segment, mEfnu}
-use Rattle.header.specs.Pointers.{blocksOf}
+use Rattle.pointers.specs.Pointers.{blocksOf}
 use Rattle.volume.specs.Volume.{header, inUse}
-use Rattle.file.specs.declared.opening.OpenedFile.the-variants as openedFiles
-use Rattle.file.specs.Chains.{chain, chainOf, flat, fileBlocks}
-use Rattle.file.specs.Opening.{hasFlag, locked, openFile, openedFile, openAnswer}
-use Rattle.marks.specs.Counts.{count, In}
+use Rattle.open_file.specs.declared.OpenedFile.the-variants as openedFiles
+use Rattle.chains.specs.Chains.{chain, chainOf, flat, fileBlocks, lastNumber}
+use Rattle.open_file.specs.Opening.{hasFlag, locked, openFile, openedFile, openAnswer}
+use Rattle.lists.specs.Counts.{count, In}
 use Rattle.sound.specs.Claims.{IsFile}
 use Rattle.sound.proofs.MemberLaws.{flat-end}
 use Rattle.sound.proofs.ChainLaws.{chain-used, member-used}
@@ -30,7 +30,7 @@ use Rattle.update.specs.declared.answers.Extended.the-variants as extends
 use Rattle.update.specs.declared.answers.Deleted.{Deleted}
 use Rattle.update.specs.declared.answers.Deleted.the-variants as deletes
 use Rattle.update.specs.Create.{newSequence, createOutcome, newId, created, createAnswer}
-use Rattle.update.specs.Extend.{lastNumber, runStart, extendOutcome, extended, extendAnswer}
+use Rattle.update.specs.Extend.{runStart, extendOutcome, extended, extendAnswer}
 use Rattle.update.specs.Delete.{deleteOutcome, deleted, deleteAnswer}
 use Rattle.update.proofs.Effects.{Good, Extended as Extends}
 use Rattle.update.proofs.DoneLaws.{create-passes, extend-passes, delete-passes}

@@ -9,7 +9,7 @@ use Rattle.image.specs.Blocks.{block}
 use Rattle.header.specs.Fields.{hFseq}
 use Rattle.home.specs.Home.{blocks}
 use Rattle.volume.specs.Volume.{fmax, header}
-use Rattle.file.specs.Chains.{fileBlocks}
+use Rattle.chains.specs.Chains.{fileBlocks}
 use Rattle.verdict.specs.Verdict.{verdictAnswer}
 use Rattle.sound.specs.Claims.{isDone, IsFile}
 use Rattle.history.specs.Calls.{Call, run, Words, Names, Each}

@@ -5,16 +5,16 @@ use mathlib.Core.List.{List, _++_}
 use Prim.Native.Nat.{ℕ, _+_}
 use lib.ListN.{length}
 use Rattle.image.specs.Words.{Bytes}
-use Rattle.image.specs.Stores.{numbersFrom}
+use Rattle.lists.specs.Lists.{numbersFrom}
 use Rattle.answer.specs.declared.types.FileId.{FileId}
 use Rattle.answer.specs.declared.types.Lbn.{Lbn}
 use Rattle.answer.specs.declared.types.Name.{Name}
 use Rattle.answer.specs.declared.refusal.Refusal.the-variants as refusal
 use Rattle.answer.specs.declared.outcome.Outcome.the-variants as outcome
 use Rattle.volume.specs.Volume.{inUse}
-use Rattle.file.specs.declared.opening.OpenedFile.the-variants as opened
-use Rattle.file.specs.Chains.{fileBlocks}
-use Rattle.file.specs.Opening.{openFile, openAnswer}
+use Rattle.open_file.specs.declared.OpenedFile.the-variants as opened
+use Rattle.chains.specs.Chains.{fileBlocks}
+use Rattle.open_file.specs.Opening.{openFile, openAnswer}
 use Rattle.update.specs.declared.answers.Created.the-variants as created
 use Rattle.update.specs.declared.answers.Extended.the-variants as extended
 use Rattle.update.specs.declared.answers.Deleted.the-variants as deleted

@@ -10,10 +10,10 @@ use Rattle.answer.specs.declared.outcome.Outcome.the-variants.{Passed, Refused}
 use Rattle.header.specs.Fields.{hFseq}
 use Rattle.volume.specs.Volume.{iblb, slot, slots, header, base, volumeOf, placesOf}
 use Rattle.volume.specs.Opening.{openVolume}
-use Rattle.file.specs.Chains.{chainOf, fileBlocks}
-use Rattle.marks.specs.Counts.{In}
+use Rattle.chains.specs.Chains.{chainOf, fileBlocks, lastNumber}
+use Rattle.lists.specs.Counts.{In}
 use Rattle.update.specs.Create.{freeNumber, indexBit}
-use Rattle.update.specs.Extend.{lastNumber, runStart}
+use Rattle.update.specs.Extend.{runStart}
 use Rattle.history.specs.Calls.{Call, create, extend, delete, outcomeOf, step, run, Words, Each}
 use Rattle.history.specs.Claims.{Accepted}
 

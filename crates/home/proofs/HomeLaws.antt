@@ -2,14 +2,15 @@
 use mathlib.Core.Path.{_≡_, refl, ap}
 use mathlib.Core.Bool.{Bool, true, false, not, _&&_, _||_, and-true, and-false}
 use mathlib.Core.List.{List}
-use Prim.Native.Nat.{ℕ, zero, suc, _*_, _≤_, _<_}
+use Prim.Native.Nat.{ℕ, zero, suc, _*_, _≤_, _<_, _+_, _/_}
 use native.Mathlib.Omega.{arith}
 use lib.Dec.{eqb}
 use lib.ListN.{length}
+use native.Mathlib.Decide.{ℕ-discrete}
+use Rattle.lists.specs.First.{first, below}
 use Rattle.image.specs.Words.{wordAt}
-use Rattle.image.specs.First.{first, below}
 use Rattle.image.specs.Sums.{checksum}
-use Rattle.home.specs.Home.{hIbsz, hIblb, hFmax, hSbcl, hVlev, labelAt, isHome, blocks, position, positions, homeAt, homeIndex}
+use Rattle.home.specs.Home.{hIbsz, hIblb, hFmax, hSbcl, hVlev, labelAt, isHome, blocks, position, positions, homeAt, homeIndex, home}
 
 -- Position i is 1 or 256 · i, and those that are counted lie below N.
 pub position-first : position 0 ≡ 1
@@ -49,3 +50,22 @@ isHome-by b =
 pub homeIndex-by : (image : List ℕ) (n : ℕ) → length image ≡ 512 * n → homeIndex image ≡ first (homeAt image) 0 (positions n)
 unfolding homeIndex
 homeIndex-by image n e = ap (λ (n : ℕ). first (homeAt image) 0 (positions n)) (blocks-of image n e)
+
+-- Which position is the home's.
+pub home-index : (image : List ℕ) → home image / 256 ≡ homeIndex image
+unfolding home
+home-index image = go (ℕ-discrete (homeIndex image) 0)
+  where
+    go : Dec (homeIndex image ≡ 0) → position (homeIndex image) / 256 ≡ homeIndex image
+    go (yes z) = rw (z, position-first) refl
+    go (no n) = omega (arith, position-later (homeIndex image) (omega arith))
+
+-- Position i lies before block 256 (i + 1).
+pub position-most : (i : ℕ) → position i < 256 * (i + 1)
+position-most zero = omega (arith, position-first)
+position-most (suc i) = omega (arith, position-later (suc i) (omega arith))
+
+-- How many positions a volume has at most.
+pub passed-most : (n : ℕ) → 256 * positions n ≤ n + 255
+unfolding positions
+passed-most n = omega arith

@@ -7,7 +7,7 @@ use lib.ListN.{length}
 use Rattle.image.specs.Words.{byteAt, wordAt}
 use Rattle.image.specs.Blocks.{block}
 use Rattle.image.specs.Sums.{checksum}
-use Rattle.image.specs.First.{first, below}
+use Rattle.lists.specs.First.{first, below}
 
 -- 01, Home block: "bytes: H.IBSZ 0; H.IBLB 2 (high word first); H.FMAX 6; H.SBCL 8; H.VLEV 12; H.INDF 496, 12 bytes."
 unfoldable pub hIbsz : List ℕ → ℕ

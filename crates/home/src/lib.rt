@@ -8,7 +8,7 @@ ghost use Prim.Native.Nat.{_+_, _*_, _^_, _≤_, _<_};
 ghost use mathlib.Core.Bool.{not, _&&_, _||_};
 ghost use lib.Dec.{eqb};
 ghost use lib.ListN.{length};
-ghost use Rattle.image.specs.First.{below};
+ghost use Rattle.lists.specs.First.{below};
 ghost use Rattle.home.specs.Home.{hIbsz, hIblb, hFmax, hSbcl, hVlev, labelAt, isHome, position, homeIndex};
 
 // H.INDF of a home block.

@@ -10,14 +10,16 @@ use borrow.Author.Tests.{leb-true, ltb-true, eqb-true, eq-eqb, ne-eqb}
 use lib.Dec.{leb, ltb, eqb}
 use lib.ListN.{length, getD, List·getD-eq-default}
 use lib.Seq.{getD-set-same}
+use Rattle.lists.specs.Lists.{numbersFrom}
+use Rattle.lists.specs.First.{below}
+use Rattle.lists.proofs.BelowLaws.{below-at}
+use Rattle.lists.proofs.NumbersLaws.{numbersFrom-none, numbersFrom-length, numbersFrom-at, numbersFrom-last}
+use Rattle.lists.specs.Counts.{oneIf}
 use Rattle.image.specs.Words.{byteAt, Bytes}
 use Rattle.image.specs.Blocks.{region, block}
-use Rattle.image.specs.Bits.{bitOf, bitAt}
-use Rattle.image.specs.Stores.{withBit, putBit, putBits, numbersFrom}
+use Rattle.image.specs.Bits.{bitOf, bitAt, isSet}
+use Rattle.image.specs.Stores.{withBit, putBit, putBits}
 use Rattle.image.proofs.BlockLaws.{byte-region, byte-block}
-use Rattle.image.specs.First.{below}
-use Rattle.image.proofs.Below.{below-at}
-use Rattle.image.proofs.Numbers.{numbersFrom-none, numbersFrom-length, numbersFrom-at, numbersFrom-last}
 use Rattle.image.proofs.StoreLaws.{Outside, Agree, agree-refl, agree-trans, agree-weaken, bitAt-agree, putBit-agree, set-bytes}
 
 -- A byte b with its bit k made v, and bit i of it: computed for every byte, both values and all bits.
@@ -181,3 +183,25 @@ module _ (m : List ℕ) (s c v : ℕ) (isBit : v < 2) (bytes : Bytes m) (fits : 
       (λ p l e.
       let small : p < c = omega (arith, numbersFrom-length s c) in
       out (omega (arith, numbersFrom-at s c p small)) (omega (arith, numbersFrom-at s c p small)))
+
+-- A bit is 1 exactly if it is set.
+pub set-one : (map : List ℕ) (j : ℕ) → oneIf (isSet map j) ≡ bitAt map j
+unfolding isSet
+set-one map j = go (bitAt map j) (bit-below map j)
+  where
+    go : (b : ℕ) → b < 2 → oneIf (eqb b 1) ≡ b
+    go zero h = refl
+    go (suc zero) h = refl
+    go (suc (suc b)) h = absurd (omega arith)
+
+pub set-is : (map : List ℕ) (j b : ℕ) → b ≡ bitAt map j → isSet map j ≡ eqb b 1
+unfolding isSet
+set-is map j b e = ap (λ (x : ℕ). eqb x 1) (sym e)
+
+-- A bit by its byte.
+pub bit-in : (map : List ℕ) (k i : ℕ) → i < 8 → bitAt map (8 * k + i) ≡ bitOf (byteAt map k) i
+unfolding bitAt
+bit-in map k i h =
+    let d : (8 * k + i) / 8 ≡ k = omega arith in
+    let m : (8 * k + i) % 8 ≡ i = omega arith in
+    cc

@@ -1,8 +1,6 @@
-pub mod Below
 pub mod BitLaws
 pub mod BlockLaws
-pub mod First
-pub mod Numbers
 pub mod StoreLaws
 pub mod SumLaws
 pub mod WordLaws
+pub mod WriteLaws

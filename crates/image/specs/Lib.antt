@@ -3,4 +3,3 @@ pub mod Blocks
 pub mod Sums
 pub mod Bits
 pub mod Stores
-pub mod First

@@ -1,9 +1,10 @@
 -- What a list of bytes holds after a store.
-use Prim.Native.Nat.{ℕ, zero, suc, _+_, _*_, _-_, _/_, _%_, _^_}
+use Prim.Native.Nat.{ℕ, _+_, _*_, _-_, _/_, _%_, _^_}
 use mathlib.Core.List.{List, [], _∷_, _++_}
 use lib.ListN.{length, take, drop, set, replicate}
 use Rattle.image.specs.Words.{byteAt}
 use Rattle.image.specs.Bits.{bitOf}
+use Rattle.image.specs.Blocks.{region}
 
 -- The word v at a place. 01, The work and its edge: "low byte first".
 unfoldable pub putWord : List ℕ → ℕ → ℕ → List ℕ
@@ -30,7 +31,10 @@ unfoldable pub putBits : List ℕ → List ℕ → ℕ → List ℕ
 putBits m [] v = m
 putBits m (j ∷ js) v = putBits (putBit m j v) js v
 
--- The c numbers from s on: s, s + 1, .., s + c - 1. 01, Extend: "c free blocks in a row".
-unfoldable pub numbersFrom : ℕ → ℕ → List ℕ
-numbersFrom s zero = []
-numbersFrom s (suc c) = s ∷ numbersFrom (s + 1) c
+-- Block k made b.
+unfoldable pub putBlock : List ℕ → ℕ → List ℕ → List ℕ
+putBlock image k b = splice image (512 * k) b
+
+-- A map lies in the q blocks from LBN k on; each of its bits in the list js made v.
+unfoldable pub putMapBits : List ℕ → ℕ → ℕ → List ℕ → ℕ → List ℕ
+putMapBits image k q js v = splice image (512 * k) (putBits (region image k q) js v)

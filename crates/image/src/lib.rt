@@ -1,6 +1,6 @@
-// The image as bytes: words, blocks, sums, bits and stores.
+// The image as bytes: words, blocks, sums and bits. What stores leave is defined here too; their code is in `stores`.
+
 pub mod bits;
 pub mod blocks;
-pub mod stores;
 pub mod sums;
 pub mod words;

@@ -1,4 +1,1 @@
-pub mod SumLaws
-pub mod CountLaws
 pub mod MarkLaws
-pub mod MapLaws

@@ -12,15 +12,16 @@ use borrow.Author.Tests.{le-leb, lt-leb, eq-eqb, ne-eqb}
 use lib.Dec.{leb, eqb}
 use lib.ListN.{length, getD, drop, set, length-set, length-append, length-drop, List·getD-append}
 use lib.Seq.{ext-getD, getD-set-same, getD-set-other, set-append-left, drop-at, drop-cons, set-at, getD-drop, getD-append-add}
-use Rattle.image.specs.First.{first}
+use Rattle.lists.specs.First.{first}
 use Rattle.image.specs.Words.{byteAt, Bytes}
-use Rattle.image.specs.Stores.{zeros, numbersFrom}
-use Rattle.image.proofs.First.{first-is}
-use Rattle.image.proofs.Numbers.{numbersFrom-none, numbersFrom-last}
+use Rattle.image.specs.Stores.{zeros}
+use Rattle.lists.specs.Lists.{numbersFrom}
+use Rattle.lists.proofs.FirstLaws.{first-is}
+use Rattle.lists.proofs.NumbersLaws.{numbersFrom-none, numbersFrom-last}
 use Rattle.image.proofs.StoreLaws.{zeros-length, zeros-byte}
-use Rattle.marks.specs.Counts.{oneIf, count}
+use Rattle.lists.specs.Counts.{oneIf, count}
 use Rattle.marks.specs.Marks.{table, capped, tallied, cleared, raised, raisedBy, lowered, markedTwice, marked}
-use Rattle.marks.proofs.CountLaws.{count-none, count-here, count-skip, count-append}
+use Rattle.lists.proofs.CountLaws.{count-none, count-here, count-skip, count-append}
 
 -- Tables.
 

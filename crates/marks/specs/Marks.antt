@@ -1,13 +1,12 @@
 -- The marks of a work area: counts that are capped at 2, a byte each. "Mark" is 01's word.
-use mathlib.Core.Bool.{Bool, not, _&&_}
+use mathlib.Core.Bool.{Bool}
 use mathlib.Core.List.{List, [], _∷_, _++_}
 use Prim.Native.Nat.{ℕ, zero, suc, _+_, min}
-use lib.Dec.{eqb, leb, ltb}
+use lib.Dec.{leb}
 use lib.ListN.{drop, set}
+use Rattle.lists.specs.Counts.{count}
 use Rattle.image.specs.Words.{byteAt}
-use Rattle.image.specs.Bits.{bitAt}
 use Rattle.image.specs.Stores.{zeros}
-use Rattle.marks.specs.Counts.{oneIf, count}
 
 -- f s, f (s + 1) and so on, n of them.
 unfoldable pub table : (ℕ → ℕ) → ℕ → ℕ → List ℕ
@@ -48,12 +47,3 @@ markedTwice area j = leb 2 (byteAt area j)
 -- Mark j says "covered".
 unfoldable pub marked : List ℕ → ℕ → Bool
 marked area j = leb 1 (byteAt area j)
-
--- Bit j of a map is set. 01, Storage map file: "set means free".
-unfoldable pub isSet : List ℕ → ℕ → Bool
-isSet map j = eqb (bitAt map j) 1
-
--- Bit j of a map is not as the marks of n blocks want it. 01, The verdict: "MAP: a map bit wrong, ..: below N set exactly if covered by none, from N on
--- clear."
-unfoldable pub unlikeMarks : List ℕ → List ℕ → ℕ → ℕ → Bool
-unlikeMarks map area n j = not (eqb (bitAt map j) (oneIf (ltb j n && eqb (byteAt area j) 0)))

@@ -1,12 +1,12 @@
 // Directories: looking a name up, and the next record.
 use answer::types::FileId;
 use answer::types::Name;
-use directory::look_up::look_up;
-use directory::next::next_record;
+use look_up::look_up;
+use look_up::next_record;
 use read_words::put_found;
 use read_words::put_stepped;
 ghost use mathlib.Core.Path.{_≡_};
-ghost use Rattle.directory.specs.LookUp.{lookUp, nextRecord};
+ghost use Rattle.look_up.specs.LookUp.{lookUp, nextRecord};
 ghost use Rattle.read_words.specs.Words.{foundWords, steppedWords};
 ghost use Rattle.ods1.specs.Arguments.{idOf, ofWords};
 

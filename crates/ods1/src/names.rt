@@ -1,13 +1,13 @@
 // Names as text, and text as names.
 use answer::types::Name;
+use parse::text_to_name;
 use text::name_to_text;
-use text::text_to_name;
 use text_words::put_named;
 use text_words::put_written;
 ghost use mathlib.Core.Path.{_≡_};
 ghost use lib.ListN.{length};
 ghost use Rattle.text.specs.Text.{nameToText, textAfter};
-ghost use Rattle.text.specs.Parse.{textToName};
+ghost use Rattle.parse.specs.Parse.{textToName};
 ghost use Rattle.text_words.specs.Words.{namedWords, writtenWords};
 ghost use Rattle.ods1.specs.Arguments.{ofWords};
 

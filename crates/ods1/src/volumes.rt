@@ -1,8 +1,8 @@
 // Opening a volume.
+use open_volume::open_volume;
 use read_words::put_opened;
-use volume::opening::open_volume;
 ghost use mathlib.Core.Path.{_≡_};
-ghost use Rattle.volume.specs.Opening.{volumeAnswer};
+ghost use Rattle.open_volume.specs.Answer.{volumeAnswer};
 ghost use Rattle.read_words.specs.Words.{openedWords};
 
 // The LBN of a volume's home.

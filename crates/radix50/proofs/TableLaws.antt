@@ -8,8 +8,8 @@ use native.Mathlib.Omega.{arith}
 use borrow.Author.Tests.{eqb-true, eqb-false, leb-true, ltb-true, not-true, ne-eqb, lt-leb}
 use lib.Dec.{eqb, leb, ltb}
 use lib.ListN.{getD}
-use Rattle.image.specs.First.{first, below}
-use Rattle.image.proofs.Below.{below-at}
+use Rattle.lists.specs.First.{first, below}
+use Rattle.lists.proofs.BelowLaws.{below-at}
 use Rattle.radix50.specs.Table.{charOf, nothing, hasChar, codeOf, isDigit, isNameChar}
 
 -- The forty characters, as the code's table has them.

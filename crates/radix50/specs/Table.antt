@@ -2,7 +2,7 @@
 use mathlib.Core.Bool.{Bool, cond, not, _&&_, _||_}
 use Prim.Native.Nat.{ℕ, _+_}
 use lib.Dec.{eqb, leb}
-use Rattle.image.specs.First.{first}
+use Rattle.lists.specs.First.{first}
 
 -- 01, Names and directories: "code 0 is blank, codes 1 to 26 are A to Z, 27 `$`, 28 `.`, 29 nothing, 30 to 39 are 0 to 9".
 -- The character of a code, as its byte; 0 for the code 29 and for every number that is no code.

@@ -2,16 +2,16 @@
 use Prim.Native.Nat.{ℕ, _*_}
 use mathlib.Core.List.{List, [], _∷_}
 use Rattle.answer.specs.Words.{doneWords, refusedWords}
-use Rattle.volume.specs.declared.opening.Opened.{Opened}
-use Rattle.volume.specs.declared.opening.Opened.the-variants as opened
-use Rattle.file.specs.declared.opening.OpenedFile.{OpenedFile}
-use Rattle.file.specs.declared.opening.OpenedFile.the-variants as openedFile
-use Rattle.file.specs.declared.mapping.Mapped.{Mapped}
-use Rattle.file.specs.declared.mapping.Mapped.the-variants as mapped
-use Rattle.directory.specs.declared.look_up.Found.{Found}
-use Rattle.directory.specs.declared.look_up.Found.the-variants as found
-use Rattle.directory.specs.declared.next.Stepped.{Stepped}
-use Rattle.directory.specs.declared.next.Stepped.the-variants as stepped
+use Rattle.open_volume.specs.declared.Opened.{Opened}
+use Rattle.open_volume.specs.declared.Opened.the-variants as opened
+use Rattle.open_file.specs.declared.OpenedFile.{OpenedFile}
+use Rattle.open_file.specs.declared.OpenedFile.the-variants as openedFile
+use Rattle.mapping.specs.declared.Mapped.{Mapped}
+use Rattle.mapping.specs.declared.Mapped.the-variants as mapped
+use Rattle.look_up.specs.declared.Found.{Found}
+use Rattle.look_up.specs.declared.Found.the-variants as found
+use Rattle.look_up.specs.declared.Stepped.{Stepped}
+use Rattle.look_up.specs.declared.Stepped.the-variants as stepped
 
 -- 01, Answer numbers: DONE has as value "the home LBN (open volume)".
 abbrev pub openedWords : Opened → List ℕ

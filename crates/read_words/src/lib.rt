@@ -2,11 +2,11 @@
 // call writes.
 use answer::words::put_done;
 use answer::words::put_refused;
-use directory::look_up::Found;
-use directory::next::Stepped;
-use file::mapping::Mapped;
-use file::opening::OpenedFile;
-use volume::opening::Opened;
+use look_up::Found;
+use look_up::Stepped;
+use mapping::Mapped;
+use open_file::OpenedFile;
+use open_volume::Opened;
 ghost use mathlib.Core.Path.{_≡_};
 ghost use Rattle.read_words.specs.Words.{openedWords, openedFileWords, mappedWords, blockWords, foundWords, steppedWords};
 

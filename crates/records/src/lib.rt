@@ -5,7 +5,7 @@ use image::words::word_at;
 ghost use mathlib.Core.Path.{_≡_};
 ghost use Prim.Native.Nat.{_+_, _*_, _-_, _≤_};
 ghost use lib.ListN.{length};
-ghost use Rattle.image.specs.First.{first};
+ghost use Rattle.lists.specs.First.{first};
 ghost use Rattle.records.specs.Records.{recordIn, entryOf, wantedIn};
 ghost use Rattle.records.specs.declared.Wanted.the-variants.{Any, Named};
 

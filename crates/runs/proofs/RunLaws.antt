@@ -5,11 +5,10 @@ use mathlib.Core.List.{List}
 use Prim.Native.Nat.{ℕ, _+_, _-_, _≤_, _<_}
 use native.Mathlib.Omega.{arith}
 use borrow.Author.Tests.{eq-eqb, ne-eqb, lt-ltb, le-ltb}
-use Rattle.image.specs.Bits.{bitAt}
-use Rattle.image.specs.First.{first}
-use Rattle.image.proofs.Below.{below-none, below-more, below-fails}
-use Rattle.image.proofs.First.{first-is}
-use Rattle.marks.specs.Marks.{isSet}
+use Rattle.image.specs.Bits.{bitAt, isSet}
+use Rattle.lists.specs.First.{first}
+use Rattle.lists.proofs.BelowLaws.{below-none, below-more, below-fails}
+use Rattle.lists.proofs.FirstLaws.{first-is}
 use Rattle.runs.specs.Runs.{isFree, isRun, starts, lowestStart, startOf}
 use Rattle.runs.specs.declared.Start.the-variants.{At, Missing}
 

@@ -3,8 +3,8 @@ use mathlib.Core.Bool.{Bool, cond}
 use mathlib.Core.List.{List}
 use Prim.Native.Nat.{ℕ, _+_, _-_}
 use lib.Dec.{ltb}
-use Rattle.image.specs.First.{first, below}
-use Rattle.marks.specs.Marks.{isSet}
+use Rattle.lists.specs.First.{first, below}
+use Rattle.image.specs.Bits.{isSet}
 use Rattle.runs.specs.declared.Start.{Start}
 use Rattle.runs.specs.declared.Start.the-variants.{At, Missing}
 

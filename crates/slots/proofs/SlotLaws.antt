@@ -14,11 +14,11 @@ use Rattle.image.specs.Words.{Bytes}
 use Rattle.image.specs.Blocks.{region, block}
 use Rattle.image.specs.Bits.{bitAt}
 use Rattle.image.proofs.BlockLaws.{block-length}
-use Rattle.header.specs.Pointers.{pointerLbn, pointerCount, runs, pointersAt, pointers, blocksOf}
-use Rattle.header.proofs.PointerLaws.{runs-none, runs-length, runs-at, runs-inside}
+use Rattle.pointers.specs.Pointers.{pointerLbn, pointerCount, runs, pointersAt, pointers, blocksOf}
+use Rattle.pointers.proofs.PointerLaws.{runs-none, runs-length, runs-at, runs-inside}
 use Rattle.home.specs.Home.{blocks}
 use Rattle.volume.specs.Volume.{ibsz, fmax, indexHeader, places, mappedBy, index, slot, slots, header, indexMap, inUse}
-use Rattle.volume.specs.declared.volume.Volume.{Volume}
+use Rattle.volume.specs.declared.Volume.{Volume}
 use Rattle.volume.specs.Opening.{indexMapBlocks, Recorded}
 use Rattle.volume.proofs.IndexLaws.{mapped-none, mapped-step, mapped-here, places-least, places-start, further, index-split}
 use Rattle.volume.proofs.VolumeLaws.{Opens, index-file, headers-lie, headers-fit, opens, says, fmax-below, indexMap-length, slot-below}

@@ -5,7 +5,7 @@ use mathlib.Core.List.{List, [], _∷_, _++_}
 use Prim.Native.Nat.{ℕ, zero, suc, _+_, _≤_, _<_}
 use lib.ListN.{length, getD, take}
 use Rattle.image.specs.Blocks.{block}
-use Rattle.header.specs.Pointers.{runs, pointersAt, pointers}
+use Rattle.pointers.specs.Pointers.{runs, pointersAt, pointers}
 use Rattle.volume.specs.Volume.{ibsz, places, mappedBy, slot, slots, header, inUse}
 use Rattle.slots.specs.declared.slots.SlotRun.{SlotRun}
 

@@ -2,18 +2,18 @@
 // stands in, so a pass over all numbers goes over the pointers once.
 use answer::types::FileNumber;
 use answer::types::Lbn;
-use header::pointers::first_pointer;
-use header::pointers::pointer_count;
-use header::pointers::pointer_lbn;
-use header::pointers::pointer_number;
 use image::blocks::block;
 use image::blocks::block_inside;
-use volume::volume::Places;
-use volume::volume::Volume;
+use pointers::first_pointer;
+use pointers::pointer_count;
+use pointers::pointer_lbn;
+use pointers::pointer_number;
+use volume::Places;
+use volume::Volume;
 ghost use mathlib.Core.Path.{_≡_};
 ghost use Prim.Native.Nat.{_+_, _≤_, _<_, _^_};
 ghost use lib.ListN.{length};
-ghost use Rattle.header.specs.Pointers.{pointersAt, pointers, runs, Fits, blocksOf};
+ghost use Rattle.pointers.specs.Pointers.{pointersAt, pointers, runs, Fits, blocksOf};
 ghost use Rattle.volume.specs.Opening.{Open, Recorded};
 ghost use Rattle.slots.specs.Slots.{RunOf, Stands, Begins};
 

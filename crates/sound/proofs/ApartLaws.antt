@@ -5,13 +5,13 @@ use mathlib.Core.List.{List}
 use Prim.Native.Nat.{ℕ, _+_, _<_}
 use native.Mathlib.Omega.{arith}
 use lib.ListN.{length, getD}
-use Rattle.header.specs.Pointers.{blocksOf}
+use Rattle.pointers.specs.Pointers.{blocksOf}
 use Rattle.home.specs.Home.{blocks}
 use Rattle.volume.specs.Volume.{header, ibsz, index, slot, slots}
 use Rattle.volume.proofs.VolumeLaws.{Opens, index-file, opens, storage-size, storage-base}
-use Rattle.file.specs.Chains.{chainOf, fileBlocks}
-use Rattle.file.proofs.ChainLaws.{flat-end}
-use Rattle.file.proofs.IndexFile.{file-index}
+use Rattle.chains.specs.Chains.{chainOf, fileBlocks}
+use Rattle.chains.proofs.ChainLaws.{flat-end}
+use Rattle.chains.proofs.IndexFile.{file-index}
 use Rattle.sound.specs.Sound.{Covers, Sound}
 use Rattle.sound.specs.Claims.{IsFile, BlocksApart}
 use Rattle.sound.proofs.CoverLaws.{covers-below}

@@ -8,10 +8,10 @@ use native.Mathlib.Omega.{arith}
 use lib.ListN.{length, getD, length-append, List·getD-append}
 use lib.Seq.{getD-append-add}
 use Rattle.header.specs.Fields.{mEfnu}
-use Rattle.header.specs.Pointers.{blocksOf}
+use Rattle.pointers.specs.Pointers.{blocksOf}
 use Rattle.volume.specs.Volume.{header, inUse}
-use Rattle.file.specs.Chains.{chain, flat}
-use Rattle.marks.specs.Counts.{In}
+use Rattle.chains.specs.Chains.{chain, flat}
+use Rattle.lists.specs.Counts.{In}
 use Rattle.sound.specs.Sound.{Covers, Sound}
 use Rattle.sound.proofs.MemberLaws.{flat-at, flat-end, flat-more}
 use Rattle.sound.proofs.ChainLaws.{chain-used, chain-apart}

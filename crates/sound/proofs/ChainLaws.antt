@@ -8,9 +8,9 @@ use native.Mathlib.Omega.{arith}
 use Rattle.image.specs.Words.{Bytes}
 use Rattle.header.specs.Fields.{segment, mEfnu}
 use Rattle.volume.specs.Volume.{header, inUse}
-use Rattle.file.specs.Chains.{chain, chainOf}
-use Rattle.file.proofs.NumberLaws.{segment-most}
-use Rattle.marks.specs.Counts.{In}
+use Rattle.chains.specs.Chains.{chain, chainOf}
+use Rattle.chains.proofs.NumberLaws.{segment-most}
+use Rattle.lists.specs.Counts.{In}
 use Rattle.sound.specs.Sound.{Sound}
 use Rattle.sound.specs.Claims.{IsFile}
 use Rattle.sound.proofs.MemberLaws.{chain-none, chain-cases, chain-head, chain-rest, Prev, chain-prev}

@@ -6,13 +6,12 @@ use Prim.Native.Nat.{ℕ, _+_, _-_, _≤_, _<_}
 use native.Mathlib.Decide.{decLt}
 use native.Mathlib.Omega.{arith}
 use borrow.Author.Tests.{eq-eqb, ne-eqb, le-leb, lt-leb}
-use Rattle.image.specs.Bits.{bitAt}
+use Rattle.image.specs.Bits.{bitAt, isSet}
 use Rattle.home.specs.Home.{blocks}
-use Rattle.volume.specs.Volume.{storageMap}
-use Rattle.marks.specs.Counts.{oneIf, count, howMany}
-use Rattle.marks.specs.Marks.{isSet}
-use Rattle.marks.proofs.CountLaws.{howMany-both, howMany-past}
-use Rattle.covers.specs.Covered.{covered, mapBits}
+use Rattle.volume.specs.Volume.{storageMap, mapBits}
+use Rattle.lists.specs.Counts.{oneIf, count, howMany}
+use Rattle.lists.proofs.CountLaws.{howMany-both, howMany-past}
+use Rattle.covers.specs.Covered.{covered}
 use Rattle.verdict.specs.Verdict.{isCovered, claimed, free}
 use Rattle.sound.specs.Sound.{Sound}
 use Rattle.sound.specs.Claims.{CountsAdd}

@@ -6,12 +6,12 @@ use Prim.Native.Nat.{ℕ, _≤_, _<_}
 use native.Mathlib.Decide.{decLt}
 use native.Mathlib.Omega.{arith}
 use Rattle.answer.specs.declared.refusal.Refusal.the-variants as refusal
-use Rattle.header.specs.Pointers.{blocksOf}
-use Rattle.header.proofs.WholeLaws.{whole-inside}
+use Rattle.pointers.specs.Pointers.{blocksOf}
+use Rattle.whole.proofs.WholeLaws.{whole-inside}
 use Rattle.home.specs.Home.{blocks}
 use Rattle.volume.specs.Volume.{fmax, header, faultOf, inUse}
-use Rattle.marks.specs.Counts.{count}
-use Rattle.marks.proofs.SumLaws.{sumTo}
+use Rattle.lists.specs.Counts.{count}
+use Rattle.lists.proofs.SumLaws.{sumTo}
 use Rattle.covers.specs.Covered.{covered, coveredTwice, twicePlace, twice}
 use Rattle.sound.specs.Sound.{Covers, Mapped}
 use Rattle.sound.proofs.Tests.{Judges, s-least, j-each, j-map}

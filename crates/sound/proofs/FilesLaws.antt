@@ -7,7 +7,7 @@ use native.Mathlib.Omega.{arith}
 use Rattle.answer.specs.declared.refusal.Refusal.the-variants as refusal
 use Rattle.header.specs.Fields.{hFseq, segment}
 use Rattle.volume.specs.Volume.{fmax, slots, hasSlot, header, faultOf, inUse}
-use Rattle.numbers.specs.Files.{isKnown, badFile, unmetOf, filesPlace, files}
+use Rattle.files.specs.Files.{isKnown, badFile, unmetOf, filesPlace, files}
 use Rattle.sound.specs.Sound.{Known}
 use Rattle.sound.proofs.Tests.{Tests, Spares, Judges, t-eq, t-le, t-is, t-and, t-map, s-or, s-unmet, j-each, j-map}
 use Rattle.slots.proofs.SlotLaws.{used-range}

@@ -9,9 +9,9 @@ use native.Mathlib.Decide.{decLt}
 use native.Mathlib.Omega.{arith}
 use lib.ListN.{length, getD}
 use Rattle.volume.specs.Volume.{fmax, header, inUse}
-use Rattle.marks.specs.Counts.{count}
-use Rattle.marks.proofs.SumLaws.{when, sumTo, sum-one, sum-apart, sum-find, Heavy, Places, sum-pair}
-use Rattle.marks.proofs.CountLaws.{count-none, count-append, count-at, count-apart, count-find, count-pair}
+use Rattle.lists.specs.Counts.{count}
+use Rattle.lists.proofs.SumLaws.{when, sumTo, sum-one, sum-apart, sum-find, Heavy, Places, sum-pair}
+use Rattle.lists.proofs.CountLaws.{count-none, count-append, count-at, count-apart, count-find, count-pair}
 use Rattle.slots.specs.Slots.{gathered}
 use Rattle.slots.proofs.SlotLaws.{used-range}
 

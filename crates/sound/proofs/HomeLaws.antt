@@ -4,10 +4,10 @@ use Prim.Native.Nat.{ℕ, _≤_, _<_}
 use native.Mathlib.Omega.{arith}
 use Rattle.answer.specs.declared.refusal.Refusal.the-variants as refusal
 use Rattle.home.specs.Home.{position, homeIndex}
-use Rattle.file.specs.Chains.{fileBlocks}
-use Rattle.marks.specs.Counts.{count}
-use Rattle.marks.proofs.CountLaws.{count-at, count-find}
-use Rattle.covers.specs.Homes.{leftOut, badHomeIndex, badHome}
+use Rattle.chains.specs.Chains.{fileBlocks}
+use Rattle.lists.specs.Counts.{count}
+use Rattle.lists.proofs.CountLaws.{count-at, count-find}
+use Rattle.bad_home.specs.Homes.{leftOut, badHomeIndex, badHome}
 use Rattle.sound.specs.Sound.{BlockOf}
 use Rattle.sound.proofs.Tests.{Judges, s-none, s-map, j-each, j-map}
 

@@ -10,10 +10,10 @@ use lib.Dec.{eqb}
 use Rattle.answer.specs.declared.refusal.Refusal.the-variants as refusal
 use Rattle.header.specs.Fields.{hFseq, segment, mEfnu, mEfsq}
 use Rattle.volume.specs.Volume.{fmax, slots, hasSlot, header, faultOf, inUse, isNumber}
-use Rattle.file.specs.Chains.{linksOn, goodLink}
-use Rattle.marks.specs.Counts.{count}
-use Rattle.marks.proofs.SumLaws.{sumTo}
-use Rattle.numbers.specs.Links.{linkOf, linked, linksWanted, badLinks, linksPlace, links}
+use Rattle.chains.specs.Chains.{linksOn, goodLink}
+use Rattle.lists.specs.Counts.{count}
+use Rattle.lists.proofs.SumLaws.{sumTo}
+use Rattle.links.specs.Links.{linkOf, linked, linksWanted, badLinks, linksPlace, links}
 use Rattle.sound.specs.Sound.{GoodLink, OneLink}
 use Rattle.sound.proofs.Tests.{Tests, Judges, t-eq, t-le, t-is, t-and, t-or, t-map, s-unmet, j-each, j-map}
 use Rattle.slots.proofs.SlotLaws.{used-range}

@@ -9,9 +9,9 @@ use lib.Dec.{eqb, ltb}
 use Rattle.image.specs.Bits.{bitAt}
 use Rattle.answer.specs.declared.refusal.Refusal.the-variants as refusal
 use Rattle.home.specs.Home.{blocks}
-use Rattle.volume.specs.Volume.{mapBlocks, storageMap}
-use Rattle.marks.specs.Counts.{oneIf, count}
-use Rattle.covers.specs.Covered.{covered, mapBits, wrongBit, mapPlace, map}
+use Rattle.volume.specs.Volume.{mapBlocks, storageMap, mapBits}
+use Rattle.lists.specs.Counts.{oneIf, count}
+use Rattle.covers.specs.Covered.{covered, wrongBit, mapPlace, map}
 use Rattle.sound.specs.Sound.{Mapped}
 use Rattle.sound.proofs.Tests.{Tests, Spares, Judges, t-eq, t-lt, t-and, t-map, s-not, j-each, j-map}
 use Rattle.sound.proofs.CoverLaws.{covered-has, covered-find}

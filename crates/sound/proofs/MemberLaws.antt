@@ -9,11 +9,11 @@ use native.Mathlib.Omega.{arith}
 use lib.ListN.{length, getD, length-append, List·getD-append}
 use lib.Seq.{getD-append-add}
 use Rattle.header.specs.Fields.{mEfnu}
-use Rattle.header.specs.Pointers.{blocksOf}
-use Rattle.file.specs.Chains.{chain, flat}
-use Rattle.file.proofs.ChainLaws as file
-use Rattle.marks.specs.Counts.{In}
-use Rattle.marks.proofs.CountLaws.{count-none, count-here, count-skip, count-tail}
+use Rattle.pointers.specs.Pointers.{blocksOf}
+use Rattle.chains.specs.Chains.{chain, flat}
+use Rattle.chains.proofs.ChainLaws as file
+use Rattle.lists.specs.Counts.{In}
+use Rattle.lists.proofs.CountLaws.{count-none, count-here, count-skip, count-tail}
 
 pub in-cases : (x y : ℕ) (l : List ℕ) → In x (y ∷ l) → (x ≡ y) ⊎ In x l
 in-cases x y l h = go (ℕ-discrete x y)

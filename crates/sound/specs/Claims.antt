@@ -9,7 +9,7 @@ use Rattle.header.specs.Fields.{segment}
 use Rattle.home.specs.Home.{blocks, position, homeIndex, home}
 use Rattle.volume.specs.Volume.{ibsz, iblb, fmax, slot, slots, header, inUse, mapBlocks, base}
 use Rattle.volume.specs.Opening.{openVolume}
-use Rattle.file.specs.Chains.{fileBlocks}
+use Rattle.chains.specs.Chains.{fileBlocks}
 use Rattle.verdict.specs.declared.judging.Judged.{Judged}
 use Rattle.verdict.specs.declared.judging.Judged.the-variants.{Done, Refused}
 use Rattle.verdict.specs.Verdict.{claimed, free, verdictAnswer}

@@ -9,11 +9,10 @@ use Prim.Native.Nat.{ℕ, _+_, _≤_, _<_}
 use lib.ListN.{length, getD}
 use Rattle.image.specs.Bits.{bitAt}
 use Rattle.header.specs.Fields.{hFseq, segment, mEfnu, mEfsq}
-use Rattle.header.specs.Pointers.{blocksOf}
+use Rattle.pointers.specs.Pointers.{blocksOf}
 use Rattle.home.specs.Home.{blocks, position, homeIndex}
-use Rattle.volume.specs.Volume.{slots, header, faultOf, inUse, storageMap}
-use Rattle.file.specs.Chains.{fileBlocks}
-use Rattle.covers.specs.Covered.{mapBits}
+use Rattle.volume.specs.Volume.{slots, header, faultOf, inUse, storageMap, mapBits}
+use Rattle.chains.specs.Chains.{fileBlocks}
 
 -- 00, 3: a known file is "in use with" its own number "as sequence and segment 0".
 pub record Known (image : List ℕ) (n : ℕ) : Type 0 where

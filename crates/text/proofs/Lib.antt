@@ -1,5 +1,1 @@
 pub mod TextLaws
-pub mod ParseLaws
-pub mod DigitLaws
-pub mod PartLaws
-pub mod RoundTrip

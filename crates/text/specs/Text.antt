@@ -11,8 +11,8 @@ use Rattle.answer.specs.declared.types.Name.{Name}
 use Rattle.answer.specs.declared.refusal.Refusal.the-variants as refusal
 use Rattle.radix50.specs.Words.{codes}
 use Rattle.radix50.specs.Names.{kept, nameCodes, proper}
-use Rattle.text.specs.declared.text.Written.{Written}
-use Rattle.text.specs.declared.text.Written.the-variants.{Done, Refused}
+use Rattle.text.specs.declared.Written.{Written}
+use Rattle.text.specs.declared.Written.the-variants.{Done, Refused}
 
 -- 01, Names and directories: "decimal without leading zero". The digits of a number that has at most k.
 unfoldable pub digits : ℕ → ℕ → List ℕ

@@ -2,10 +2,10 @@
 use Prim.Native.Nat.{ℕ}
 use mathlib.Core.List.{List, [], _∷_}
 use Rattle.answer.specs.Words.{doneWords, refusedWords}
-use Rattle.text.specs.declared.parse.Named.{Named}
-use Rattle.text.specs.declared.parse.Named.the-variants as named
-use Rattle.text.specs.declared.text.Written.{Written}
-use Rattle.text.specs.declared.text.Written.the-variants as written
+use Rattle.parse.specs.declared.Named.{Named}
+use Rattle.parse.specs.declared.Named.the-variants as named
+use Rattle.text.specs.declared.Written.{Written}
+use Rattle.text.specs.declared.Written.the-variants as written
 
 -- 01, Answer numbers: DONE has as value the "name words".
 abbrev pub namedWords : Named → List ℕ

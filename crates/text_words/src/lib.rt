@@ -2,7 +2,7 @@
 // writes.
 use answer::words::put_done;
 use answer::words::put_refused;
-use text::Named;
+use parse::Named;
 use text::Written;
 ghost use mathlib.Core.Path.{_≡_};
 ghost use Rattle.text_words.specs.Words.{namedWords, writtenWords};

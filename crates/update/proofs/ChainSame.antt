@@ -4,9 +4,9 @@ use mathlib.Core.List.{List, [], _∷_, _++_}
 use Prim.Native.Nat.{ℕ, zero, suc}
 use native.Mathlib.Decide.{ℕ-discrete}
 use Rattle.header.specs.Fields.{mEfnu}
-use Rattle.header.specs.Pointers.{blocksOf}
-use Rattle.file.specs.Chains.{chain, flat}
-use Rattle.marks.specs.Counts.{In}
+use Rattle.pointers.specs.Pointers.{blocksOf}
+use Rattle.chains.specs.Chains.{chain, flat}
+use Rattle.lists.specs.Counts.{In}
 use Rattle.sound.proofs.MemberLaws.{in-here, in-tail, chain-end, chain-more, chain-head, chain-rest}
 
 module _ (hdr hdr′ : ℕ → List ℕ) where

@@ -10,18 +10,17 @@ use lib.ListN.{length}
 use lib.Seq.{ext-getD}
 use Rattle.image.specs.Words.{byteAt, Bytes}
 use Rattle.image.specs.Blocks.{region, block}
-use Rattle.image.specs.Stores.{putWord, splice, zeros, putBits}
+use Rattle.image.specs.Stores.{putWord, splice, zeros, putBits, putBlock, putMapBits}
 use Rattle.image.proofs.BlockLaws.{region-length, block-bytes}
 use Rattle.image.proofs.StoreLaws.{Outside, splice-length, splice-byte, splice-agree, Keeps, keeps-refl, keeps-trans, keeps-weaken}
 use Rattle.image.proofs.BitLaws.{putBits-agree}
-use Rattle.marks.specs.Counts.{count, In}
-use Rattle.marks.proofs.CountLaws.{count-none}
+use Rattle.lists.specs.Counts.{count, In}
+use Rattle.lists.proofs.CountLaws.{count-none}
 use Rattle.sound.proofs.MemberLaws.{in-cases, in-here, in-tail}
-use Rattle.edits.specs.Cleared.{clearedSlot}
-use Rattle.edits.proofs.ClearedLaws.{cleared-length, cleared-bytes, cleared-fseq}
-use Rattle.update.specs.Writes.{putBlock, putMapBits}
+use Rattle.header_edit.specs.Cleared.{clearedSlot}
+use Rattle.header_edit.proofs.ClearedLaws.{cleared-length, cleared-bytes, cleared-fseq}
 use Rattle.update.specs.Delete.{clearSlots}
-use Rattle.update.proofs.WriteLaws.{putBlock-block, putBlock-keeps, putBlock-region, putBlock-bytes, putMapBits-outside}
+use Rattle.image.proofs.WriteLaws.{putBlock-block, putBlock-keeps, putBlock-region, putBlock-bytes, putMapBits-outside}
 
 -- i is one of the n places from `at` on, or none of them.
 abbrev In-run : ℕ → ℕ → ℕ → Type 0

@@ -14,18 +14,20 @@ use Rattle.image.proofs.StoreLaws.{Keeps, keeps-trans, keeps-weaken}
 use Rattle.home.specs.Home.{blocks}
 use Rattle.volume.specs.Volume.{ibsz, iblb, fmax, slot, slots, header, faultOf, inUse, indexMap, mapBlocks, base, storageMap}
 use Rattle.volume.proofs.VolumeLaws.{slot-below}
-use Rattle.file.specs.Chains.{chainOf}
-use Rattle.marks.specs.Counts.{In}
-use Rattle.marks.proofs.CountLaws.{count-none, count-skip}
+use Rattle.chains.specs.Chains.{chainOf}
+use Rattle.lists.specs.Counts.{In}
+use Rattle.lists.proofs.CountLaws.{count-none, count-skip}
 use Rattle.slots.proofs.SlotLaws.{in-use-bit, used-range}
 use Rattle.sound.proofs.MemberLaws.{in-cases, in-here}
 use Rattle.sound.proofs.ChainLaws.{member-used}
-use Rattle.edits.proofs.FreshLaws.{Fresh}
-use Rattle.update.specs.Writes.{putBlock, usedBit}
+use Rattle.fresh_header.proofs.FreshLaws.{Fresh}
+use Rattle.image.specs.Stores.{putBlock}
+use Rattle.update.specs.Writes.{usedBit}
 use Rattle.update.specs.Create.{indexBit, withNumber}
 use Rattle.update.proofs.Effects.{Good, Written, Stays, Created}
 use Rattle.update.proofs.FrameLaws.{slot-clear, maps-apart, numbers-fit, blocks-same, ibsz-same, iblb-same, fmax-same, slot-same, base-same, header-same, fixed-after}
-use Rattle.update.proofs.WriteLaws.{keeps-region, putBlock-block, putBlock-keeps, putBlock-region, putBlock-length, putBlock-bytes, putMapBits-keeps, putMapBits-bytes, putMapBits-bit, putMapBits-rest, used-same}
+use Rattle.image.proofs.WriteLaws.{keeps-region, putBlock-block, putBlock-keeps, putBlock-region, putBlock-length, putBlock-bytes, putMapBits-keeps, putMapBits-bytes, putMapBits-bit, putMapBits-rest}
+use Rattle.update.proofs.SameLaws.{used-same}
 
 -- On a good image, number n has a slot and is not in use, and h is a fresh header of that number with sequence q.
 pub record Creating (image : List ℕ) (n q : ℕ) (h : List ℕ) : Type 0 where

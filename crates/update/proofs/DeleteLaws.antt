@@ -14,21 +14,23 @@ use Rattle.image.proofs.StoreLaws.{Outside, Keeps, keeps-trans, keeps-weaken}
 use Rattle.home.specs.Home.{blocks}
 use Rattle.volume.specs.Volume.{ibsz, iblb, slot, slots, header, indexMap, inUse, mapBlocks, base, storageMap}
 use Rattle.volume.proofs.VolumeLaws.{slot-below, base-fits}
-use Rattle.file.specs.Chains.{chainOf, flat, fileBlocks}
-use Rattle.marks.specs.Counts.{count, In}
-use Rattle.marks.proofs.CountLaws.{count-none, count-find}
+use Rattle.chains.specs.Chains.{chainOf, flat, fileBlocks, slotsOf}
+use Rattle.lists.specs.Counts.{count, In}
+use Rattle.lists.proofs.CountLaws.{count-none, count-find}
 use Rattle.slots.proofs.SlotLaws.{used-range}
 use Rattle.sound.specs.Claims.{IsFile}
 use Rattle.sound.proofs.MemberLaws.{in-cases, in-here, in-tail}
 use Rattle.sound.proofs.ChainLaws.{member-used, only-head, chains-apart}
 use Rattle.sound.proofs.ApartLaws.{file-inside}
-use Rattle.edits.specs.Cleared.{clearedSlot}
-use Rattle.update.specs.Writes.{putMapBits, unusedBit, freeBit}
+use Rattle.header_edit.specs.Cleared.{clearedSlot}
+use Rattle.image.specs.Stores.{putMapBits}
+use Rattle.update.specs.Writes.{unusedBit, freeBit}
 use Rattle.update.specs.Create.{indexBit}
-use Rattle.update.specs.Delete.{indexBits, slotsOf, clearSlots, withoutNumbers}
+use Rattle.update.specs.Delete.{indexBits, clearSlots, withoutNumbers}
 use Rattle.update.proofs.Effects.{Clear, Good, Written, Stays, Deleted}
 use Rattle.update.proofs.FrameLaws.{slot-clear, maps-apart, numbers-fit, blocks-same, ibsz-same, iblb-same, fmax-same, slot-same, base-same, header-same, fixed-after}
-use Rattle.update.proofs.WriteLaws.{keeps-region, putMapBits-outside, putMapBits-length, putMapBits-keeps, putMapBits-bytes, putMapBits-bit, putMapBits-rest, used-same}
+use Rattle.image.proofs.WriteLaws.{keeps-region, putMapBits-outside, putMapBits-length, putMapBits-keeps, putMapBits-bytes, putMapBits-bit, putMapBits-rest}
+use Rattle.update.proofs.SameLaws.{used-same}
 use Rattle.update.proofs.ClearLaws.{Fit, clear-keeps, clear-bytes, clear-block, clear-map-commute}
 
 -- What a list of numbers gives, one each: x is given by a member.

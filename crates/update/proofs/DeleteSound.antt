@@ -11,14 +11,13 @@ use lib.ListN.{length, getD}
 use Rattle.image.specs.Words.{Bytes}
 use Rattle.image.specs.Bits.{bitAt}
 use Rattle.header.specs.Fields.{segment, mEfnu}
-use Rattle.header.specs.Pointers.{blocksOf}
+use Rattle.pointers.specs.Pointers.{blocksOf}
 use Rattle.home.specs.Home.{blocks}
-use Rattle.volume.specs.Volume.{header, faultOf, inUse, storageMap}
-use Rattle.file.specs.Chains.{chainOf, flat}
-use Rattle.marks.specs.Counts.{count, In}
-use Rattle.marks.proofs.CountLaws.{count-none, count-append, count-at, count-find}
+use Rattle.volume.specs.Volume.{header, faultOf, inUse, storageMap, mapBits}
+use Rattle.chains.specs.Chains.{chainOf, flat}
+use Rattle.lists.specs.Counts.{count, In}
+use Rattle.lists.proofs.CountLaws.{count-none, count-append, count-at, count-find}
 use Rattle.slots.proofs.SlotLaws.{used-range}
-use Rattle.covers.specs.Covered.{mapBits}
 use Rattle.sound.specs.Sound.{GoodLink, OneLink, Covers, Mapped, Sound}
 use Rattle.sound.specs.Claims.{IsFile}
 use Rattle.sound.proofs.MapLaws.{bits-enough}

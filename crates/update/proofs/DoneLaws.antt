@@ -18,12 +18,12 @@ use Rattle.header.specs.Fields.{hFseq}
 use Rattle.home.specs.Home.{blocks}
 use Rattle.volume.specs.Volume.{fmax, header}
 use Rattle.volume.proofs.VolumeLaws.{opens-all}
-use Rattle.file.specs.Chains.{chainOf}
-use Rattle.file.specs.Opening.{openFile}
+use Rattle.chains.specs.Chains.{chainOf, lastNumber}
+use Rattle.open_file.specs.Opening.{openFile}
 use Rattle.verdict.specs.Verdict.{verdict, afterwards}
 use Rattle.sound.proofs.ExactLaws.{verdict-judges}
 use Rattle.update.specs.Create.{freeNumber, newSequence, createTests, createOutcome, withFile, createImage}
-use Rattle.update.specs.Extend.{isKnownNumber, isFixed, isCount, hasRoom, lastNumber, runStart, hasRun, extendTests, extendOutcome, withBlocks, extendImage}
+use Rattle.update.specs.Extend.{isKnownNumber, isFixed, isCount, hasRoom, runStart, hasRun, extendTests, extendOutcome, withBlocks, extendImage}
 use Rattle.update.specs.Delete.{deleteTests, deleteOutcome, withoutNumbers, deleteImage}
 use Rattle.update.proofs.Effects.{Good}
 

@@ -6,16 +6,15 @@ use Prim.Native.Nat.{ℕ, _+_, _≤_, _<_}
 use Rattle.image.specs.Words.{Bytes}
 use Rattle.image.specs.Blocks.{block}
 use Rattle.image.specs.Bits.{bitAt}
-use Rattle.image.specs.Stores.{numbersFrom}
+use Rattle.lists.specs.Lists.{numbersFrom}
 use Rattle.image.proofs.StoreLaws.{Keeps}
 use Rattle.header.specs.Fields.{hFseq, segment, mEfnu, mEfsq}
-use Rattle.header.specs.Pointers.{blocksOf}
+use Rattle.pointers.specs.Pointers.{blocksOf}
 use Rattle.home.specs.Home.{blocks, position, homeIndex}
-use Rattle.volume.specs.Volume.{ibsz, iblb, fmax, slot, slots, header, faultOf, inUse, mapBlocks, base, storageMap}
+use Rattle.volume.specs.Volume.{ibsz, iblb, fmax, slot, slots, header, faultOf, inUse, mapBlocks, base, storageMap, mapBits}
 use Rattle.volume.proofs.VolumeLaws.{Opens}
-use Rattle.file.specs.Chains.{chainOf, flat, fileBlocks}
-use Rattle.marks.specs.Counts.{count, In}
-use Rattle.covers.specs.Covered.{mapBits}
+use Rattle.chains.specs.Chains.{chainOf, flat, fileBlocks}
+use Rattle.lists.specs.Counts.{count, In}
 use Rattle.sound.specs.Sound.{BlockOf, Sound}
 
 -- Block k is no slot of a number of S, none of the index map and none of the storage map: what every writer that writes the slots of S leaves as it was.

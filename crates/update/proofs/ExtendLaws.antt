@@ -10,34 +10,35 @@ use lib.Dec.{leb}
 use lib.ListN.{length}
 use Rattle.image.specs.Words.{Bytes}
 use Rattle.image.specs.Blocks.{region, block}
-use Rattle.image.specs.Bits.{bitAt}
-use Rattle.image.specs.Stores.{numbersFrom}
-use Rattle.image.proofs.Below.{below-at}
+use Rattle.image.specs.Bits.{bitAt, isSet}
+use Rattle.lists.specs.Lists.{numbersFrom}
+use Rattle.lists.proofs.BelowLaws.{below-at}
 use Rattle.image.proofs.BlockLaws.{block-bytes}
-use Rattle.image.proofs.First.{first-has}
+use Rattle.lists.proofs.FirstLaws.{first-has}
 use Rattle.image.proofs.StoreLaws.{Keeps, keeps-trans, keeps-weaken}
 use Rattle.header.specs.Fields.{mEfnu, mUse, mMax}
-use Rattle.header.specs.Pointers.{blocksOf}
+use Rattle.pointers.specs.Pointers.{blocksOf}
 use Rattle.home.specs.Home.{blocks, position, homeIndex}
 use Rattle.volume.specs.Volume.{ibsz, iblb, fmax, slot, slots, header, faultOf, inUse, indexMap, mapBlocks, base, storageMap}
 use Rattle.volume.proofs.VolumeLaws.{slot-below, header-length, base-fits}
-use Rattle.file.specs.Chains.{chainOf, flat, fileBlocks}
-use Rattle.marks.specs.Counts.{count, In}
-use Rattle.marks.specs.Marks.{isSet}
-use Rattle.marks.proofs.CountLaws.{count-append, count-at, Found, count-find, count-numbers-in, count-numbers-out}
+use Rattle.chains.specs.Chains.{chainOf, flat, fileBlocks}
+use Rattle.lists.specs.Counts.{count, In}
+use Rattle.lists.proofs.CountLaws.{count-append, count-at, Found, count-find, count-numbers-in, count-numbers-out}
 use Rattle.slots.proofs.SlotLaws.{used-range}
 use Rattle.sound.specs.Sound.{BlockOf}
 use Rattle.sound.proofs.MemberLaws.{in-here, in-tail}
 use Rattle.sound.proofs.ChainLaws.{member-used}
-use Rattle.edits.specs.Extended.{extendedHeader}
-use Rattle.edits.proofs.ExtendedLaws.{Extends, extends-is}
+use Rattle.header_edit.specs.Extended.{extendedHeader}
+use Rattle.header_edit.proofs.ExtendedLaws.{Extends, extends-is}
 use Rattle.runs.specs.Runs.{isFree, isRun, starts, lowestStart}
-use Rattle.update.specs.Writes.{putMapBits, takenBit}
+use Rattle.image.specs.Stores.{putMapBits}
+use Rattle.update.specs.Writes.{takenBit}
 use Rattle.update.specs.Extend.{isCount, hasRoom, runStart, hasRun, withBlocks}
 use Rattle.update.proofs.Effects.{Good, Written, Stays, Extended}
 use Rattle.update.proofs.ChainSame.{chain-links}
 use Rattle.update.proofs.FrameLaws.{slot-clear, maps-apart, blocks-same, homeIndex-same, ibsz-same, iblb-same, fmax-same, slots-same, slot-same, base-same, header-same}
-use Rattle.update.proofs.WriteLaws.{keeps-region, putBlock-block, putBlock-keeps, putBlock-region, putBlock-bytes, putMapBits-keeps, putMapBits-length, putMapBits-bytes, putMapBits-bit, putMapBits-rest, used-same}
+use Rattle.image.proofs.WriteLaws.{keeps-region, putBlock-block, putBlock-keeps, putBlock-region, putBlock-bytes, putMapBits-keeps, putMapBits-length, putMapBits-bytes, putMapBits-bit, putMapBits-rest}
+use Rattle.update.proofs.SameLaws.{used-same}
 
 -- A count is 1 to 256.
 pub count-range : (c : ℕ) → isCount c ≡ true → (1 ≤ c) × (c ≤ 256)

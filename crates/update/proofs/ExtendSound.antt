@@ -10,10 +10,10 @@ use native.Mathlib.Omega.{arith}
 use lib.ListN.{length, getD, length-append, List·getD-append}
 use lib.Seq.{getD-append-add}
 use Rattle.image.specs.Bits.{bitAt}
-use Rattle.image.specs.Stores.{numbersFrom}
-use Rattle.image.proofs.Numbers.{numbersFrom-length, numbersFrom-at}
+use Rattle.lists.specs.Lists.{numbersFrom}
+use Rattle.lists.proofs.NumbersLaws.{numbersFrom-length, numbersFrom-at}
 use Rattle.header.specs.Fields.{segment, mEfnu}
-use Rattle.header.specs.Pointers.{blocksOf}
+use Rattle.pointers.specs.Pointers.{blocksOf}
 use Rattle.home.specs.Home.{blocks}
 use Rattle.volume.specs.Volume.{header, faultOf, inUse, storageMap}
 use Rattle.sound.specs.Sound.{GoodLink, OneLink, Covers, Mapped, Sound}

@@ -7,18 +7,18 @@ use Prim.Native.Nat.{ℕ, _+_, _*_, _-_, _/_, _≤_, _<_}
 use native.Mathlib.Omega.{arith}
 use lib.ListN.{length, getD}
 use Rattle.image.specs.Blocks.{block}
-use Rattle.image.proofs.First.{Is, first-has, first-is}
-use Rattle.header.specs.Pointers.{blocksOf}
+use Rattle.lists.proofs.FirstLaws.{Is, first-has, first-is}
+use Rattle.pointers.specs.Pointers.{blocksOf}
 use Rattle.home.specs.Home.{isHome, blocks, position, positions, homeAt, homeIndex, home}
 use Rattle.header.specs.Fields.{mEfnu}
 use Rattle.volume.specs.Volume.{ibsz, iblb, fmax, indexHeader, places, index, indexEnds, padded, slot, slots, header, inUse, mapBlocks, base, volumeOf, placesOf}
 use Rattle.volume.specs.Opening.{indexMapBlocks}
 use Rattle.volume.proofs.IndexSame.{AllKept, places-same, index-kept, ends-kept}
 use Rattle.volume.proofs.VolumeLaws.{Opens, index-file, slot-first, slots-least, storage-size, storage-base}
-use Rattle.file.proofs.IndexFile.{file-index, index-long, index-slots}
-use Rattle.file.specs.Chains.{chainOf, flat, fileBlocks}
-use Rattle.marks.specs.Counts.{In}
-use Rattle.marks.proofs.CountLaws.{count-find, count-at}
+use Rattle.chains.proofs.IndexFile.{file-index, index-long, index-slots}
+use Rattle.chains.specs.Chains.{chainOf, flat, fileBlocks}
+use Rattle.lists.specs.Counts.{In}
+use Rattle.lists.proofs.CountLaws.{count-find, count-at}
 use Rattle.slots.proofs.SlotLaws.{used-range}
 use Rattle.sound.specs.Sound.{BlockOf}
 use Rattle.sound.specs.Claims.{IsFile}

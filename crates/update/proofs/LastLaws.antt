@@ -7,17 +7,17 @@ use native.Mathlib.Omega.{arith}
 use native.Mathlib.Decide.{ℕ-discrete}
 use Rattle.image.specs.Words.{Bytes}
 use Rattle.header.specs.Fields.{segment, mEfnu}
-use Rattle.header.specs.Pointers.{blocksOf}
+use Rattle.pointers.specs.Pointers.{blocksOf}
 use Rattle.volume.specs.Volume.{header, inUse}
-use Rattle.file.specs.Chains.{chain, chainOf, flat, fileBlocks}
-use Rattle.file.proofs.NumberLaws.{segment-most}
-use Rattle.marks.specs.Counts.{In}
-use Rattle.marks.proofs.CountLaws.{count-none}
+use Rattle.chains.specs.Chains.{chain, chainOf, flat, fileBlocks, lastNumber}
+use Rattle.chains.proofs.NumberLaws.{segment-most}
+use Rattle.lists.specs.Counts.{In}
+use Rattle.lists.proofs.CountLaws.{count-none}
 use Rattle.sound.specs.Sound.{Sound}
 use Rattle.sound.specs.Claims.{IsFile}
 use Rattle.sound.proofs.MemberLaws.{in-here, in-tail, chain-end, chain-more}
 use Rattle.sound.proofs.ChainLaws.{chain-first, chain-later}
-use Rattle.update.specs.Extend.{lastOf, lastNumber}
+use Rattle.lists.specs.Lists.{lastOf}
 
 -- The last of a list that is not empty stands in it.
 pub last-in : (d x : ℕ) (l : List ℕ) → In x l → In (lastOf d l) l

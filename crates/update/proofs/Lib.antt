@@ -6,7 +6,6 @@ pub mod LastLaws
 pub mod SameLaws
 pub mod CreateSound
 pub mod ExtendSound
-pub mod WriteLaws
 pub mod DeleteSound
 pub mod CreateLaws
 pub mod ExtendLaws

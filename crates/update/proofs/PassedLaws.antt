@@ -6,7 +6,7 @@ use Prim.Native.Nat.{ℕ, _-_, _≤_, _<_}
 use native.Mathlib.Omega.{arith}
 use borrow.Author.Tests.{leb-true, leb-false, ltb-true, not-true}
 use lib.Dec.{leb, ltb}
-use Rattle.image.proofs.First.{first-has}
+use Rattle.lists.proofs.FirstLaws.{first-has}
 use Rattle.answer.specs.declared.types.FileId.{FileId}
 use Rattle.answer.specs.declared.types.Name.{Name}
 use Rattle.answer.specs.declared.refusal.Refusal.the-variants as refusal
@@ -16,12 +16,13 @@ use Rattle.answer.proofs.OutcomeLaws.{passed-then, passed-first, passed-last}
 use Rattle.radix50.specs.Names.{proper}
 use Rattle.header.specs.Fields.{hFseq}
 use Rattle.volume.specs.Volume.{fmax, slots, hasSlot, header, inUse, isNumber}
-use Rattle.file.specs.Opening.{openFile}
-use Rattle.file.proofs.OpeningLaws.{Opened, opened}
+use Rattle.open_file.specs.Opening.{openFile}
+use Rattle.open_file.proofs.OpeningLaws.{Opened, opened}
 use Rattle.verdict.specs.Verdict.{verdict}
 use Rattle.sound.specs.Claims.{IsFile}
 use Rattle.update.specs.Create.{isSpare, freeNumber, createTests, createOutcome}
-use Rattle.update.specs.Extend.{isKnownNumber, isFixed, isCount, hasRoom, lastNumber, hasRun, extendTests, extendOutcome}
+use Rattle.update.specs.Extend.{isKnownNumber, isFixed, isCount, hasRoom, hasRun, extendTests, extendOutcome}
+use Rattle.chains.specs.Chains.{lastNumber}
 use Rattle.update.specs.Delete.{deleteTests, deleteOutcome}
 
 -- A number that create takes.

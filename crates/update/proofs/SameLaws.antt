@@ -1,11 +1,15 @@
 -- What a number that stays in use keeps from one image to the next: its places, and the link from its header.
 use mathlib.Core.Path.{_≡_, sym, ap, _∙_}
-use mathlib.Core.Bool.{true}
+use mathlib.Core.Bool.{true, and-false}
 use mathlib.Core.List.{List}
-use Prim.Native.Nat.{ℕ, _+_}
+use Prim.Native.Nat.{ℕ, _+_, _-_, _≤_, _<_}
+use native.Mathlib.Decide.{decLt}
+use native.Mathlib.Omega.{arith}
+use borrow.Author.Tests.{lt-leb}
+use Rattle.image.specs.Bits.{bitAt}
 use Rattle.header.specs.Fields.{hFseq, segment, mEfnu, mEfsq}
 use Rattle.home.specs.Home.{blocks}
-use Rattle.volume.specs.Volume.{slots, header, faultOf, inUse}
+use Rattle.volume.specs.Volume.{slots, header, faultOf, inUse, fmax, indexMap}
 use Rattle.sound.specs.Sound.{GoodLink, Known, Covers}
 
 -- The fields of header k that links and known files are judged by.
@@ -40,3 +44,14 @@ module _ (image image′ : List ℕ) where
     sequence = rw (a .efnu) (to .fseq ∙ g .sequence ∙ sym (a .efsq));
     next = rw (a .efnu) (to .seg ∙ g .next ∙ ap (λ (x : ℕ). x + 1) (sym (a .seg)));
   }
+
+-- Which numbers are in use, where H.FMAX is the same: by the bits of the index map.
+pub used-same : (image image′ : List ℕ) → fmax image′ ≡ fmax image → (k : ℕ)
+    → (1 ≤ k → k ≤ fmax image → bitAt (indexMap image′) (k - 1) ≡ bitAt (indexMap image) (k - 1)) → inUse image′ k ≡ inUse image k
+unfolding inUse
+used-same image image′ e k bits = go (decLt 0 k) (decLt (fmax image) k)
+  where
+    go : Dec (0 < k) → Dec (fmax image < k) → inUse image′ k ≡ inUse image k
+    go (no l) d = rw (lt-leb 1 k (omega arith))
+    go (yes l) (yes h) = rw (e, lt-leb k (fmax image) h, and-false)
+    go (yes l) (no h) = rw (e, bits l (omega arith))

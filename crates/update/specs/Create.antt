@@ -3,7 +3,7 @@ use mathlib.Core.Bool.{Bool, not, _&&_}
 use mathlib.Core.List.{List, [], _∷_}
 use Prim.Native.Nat.{ℕ, _+_, _-_}
 use lib.Dec.{leb, ltb}
-use Rattle.image.specs.First.{first}
+use Rattle.lists.specs.First.{first}
 use Rattle.answer.specs.declared.types.FileId.{FileId}
 use Rattle.answer.specs.declared.types.Name.{Name}
 use Rattle.answer.specs.declared.refusal.Refusal.the-variants as refusal
@@ -14,10 +14,11 @@ use Rattle.radix50.specs.Names.{proper}
 use Rattle.header.specs.Fields.{hFseq}
 use Rattle.volume.specs.Volume.{ibsz, iblb, fmax, slot, hasSlot, header, inUse}
 use Rattle.verdict.specs.Verdict.{verdict, afterwards}
-use Rattle.edits.specs.Fresh.{freshHeader}
+use Rattle.fresh_header.specs.Fresh.{freshHeader}
 use Rattle.update.specs.declared.answers.Created.{Created}
 use Rattle.update.specs.declared.answers.Created.the-variants.{Done, Refused}
-use Rattle.update.specs.Writes.{putBlock, putMapBits, usedBit}
+use Rattle.image.specs.Stores.{putBlock, putMapBits}
+use Rattle.update.specs.Writes.{usedBit}
 
 -- 01, Create: "with bit clear, a slot, and word at byte 4 of the slot below 65,535". That word is H.FSEQ.
 unfoldable pub isSpare : List ℕ → ℕ → Bool

@@ -3,20 +3,21 @@ use mathlib.Core.Bool.{not}
 use mathlib.Core.List.{List, [], _∷_}
 use Prim.Native.Nat.{ℕ}
 use Rattle.image.specs.Blocks.{block}
+use Rattle.image.specs.Stores.{putBlock, putMapBits}
 use Rattle.answer.specs.declared.types.FileId.{FileId}
 use Rattle.answer.specs.declared.refusal.Refusal.the-variants as refusal
 use Rattle.answer.specs.declared.outcome.Outcome.{Outcome}
 use Rattle.answer.specs.declared.outcome.Outcome.the-variants as outcome
 use Rattle.answer.specs.Outcome.{unless, _then_}
+use Rattle.header_edit.specs.Cleared.{clearedSlot}
 use Rattle.home.specs.Home.{blocks}
-use Rattle.volume.specs.Volume.{ibsz, iblb, slot, header, mapBlocks, base}
-use Rattle.file.specs.Chains.{chainOf, flat}
-use Rattle.file.specs.Opening.{openFile}
+use Rattle.volume.specs.Volume.{ibsz, iblb, header, mapBlocks, base}
+use Rattle.chains.specs.Chains.{chainOf, flat, slotsOf}
+use Rattle.open_file.specs.Opening.{openFile}
 use Rattle.verdict.specs.Verdict.{verdict, afterwards}
-use Rattle.edits.specs.Cleared.{clearedSlot}
 use Rattle.update.specs.declared.answers.Deleted.{Deleted}
 use Rattle.update.specs.declared.answers.Deleted.the-variants.{Done, Refused}
-use Rattle.update.specs.Writes.{putBlock, putMapBits, unusedBit, freeBit}
+use Rattle.update.specs.Writes.{unusedBit, freeBit}
 use Rattle.update.specs.Create.{indexBit}
 use Rattle.update.specs.Extend.{isKnownNumber}
 
@@ -41,11 +42,6 @@ deleteAnswer image id b h = deleted (deleteOutcome image id b h)
 unfoldable pub indexBits : List ℕ → List ℕ
 indexBits [] = []
 indexBits (n ∷ ns) = indexBit n ∷ indexBits ns
-
--- The slots of a list of numbers.
-unfoldable pub slotsOf : List ℕ → List ℕ → List ℕ
-slotsOf image [] = []
-slotsOf image (n ∷ ns) = slot image n ∷ slotsOf image ns
 
 -- 01, Delete: "its slots 0 but for the sequence word". The blocks of a list of LBNs are the slots.
 unfoldable pub clearSlots : List ℕ → List ℕ → List ℕ

@@ -1,25 +1,26 @@
 -- Extend: its answer, and the image after it.
 use mathlib.Core.Bool.{Bool, not, _&&_}
-use mathlib.Core.List.{List, [], _∷_}
+use mathlib.Core.List.{List}
 use Prim.Native.Nat.{ℕ, _+_}
 use lib.Dec.{leb, ltb}
-use Rattle.image.specs.Stores.{numbersFrom}
+use Rattle.lists.specs.Lists.{numbersFrom}
+use Rattle.image.specs.Stores.{putBlock, putMapBits}
 use Rattle.answer.specs.declared.types.FileId.{FileId}
 use Rattle.answer.specs.declared.refusal.Refusal.the-variants as refusal
 use Rattle.answer.specs.declared.outcome.Outcome.{Outcome}
 use Rattle.answer.specs.declared.outcome.Outcome.the-variants as outcome
 use Rattle.answer.specs.Outcome.{unless, _then_}
 use Rattle.header.specs.Fields.{userFlags, mUse, mMax}
+use Rattle.header_edit.specs.Extended.{extendedHeader}
 use Rattle.home.specs.Home.{blocks}
 use Rattle.volume.specs.Volume.{slot, header, mapBlocks, base, storageMap}
-use Rattle.file.specs.Chains.{chainOf}
-use Rattle.file.specs.Opening.{hasFlag, openFile}
-use Rattle.verdict.specs.Verdict.{verdict, afterwards}
-use Rattle.edits.specs.Extended.{extendedHeader}
 use Rattle.runs.specs.Runs.{starts, lowestStart}
+use Rattle.chains.specs.Chains.{lastNumber}
+use Rattle.open_file.specs.Opening.{hasFlag, openFile}
+use Rattle.verdict.specs.Verdict.{verdict, afterwards}
 use Rattle.update.specs.declared.answers.Extended.{Extended}
 use Rattle.update.specs.declared.answers.Extended.the-variants.{Done, Refused}
-use Rattle.update.specs.Writes.{putBlock, putMapBits, takenBit}
+use Rattle.update.specs.Writes.{takenBit}
 
 -- 01, Answer numbers: "22 KNOWN | extend or delete of 1 to 5".
 unfoldable pub isKnownNumber : ℕ → Bool
@@ -36,15 +37,6 @@ isCount c = leb 1 c && leb c 256
 -- 01, Answer numbers: "25 FULL | M.USE+2 above M.MAX". The header has room for one pointer more.
 unfoldable pub hasRoom : List ℕ → Bool
 hasRoom h = leb (mUse h + 2) (mMax h)
-
--- The last of a list of numbers; n where it has none.
-unfoldable pub lastOf : ℕ → List ℕ → ℕ
-lastOf n [] = n
-lastOf n (x ∷ xs) = lastOf x xs
-
--- 01, Extend: "the last segment". The number of the last header of the file whose first header has number n.
-unfoldable pub lastNumber : List ℕ → ℕ → ℕ
-lastNumber image n = lastOf n (chainOf image n)
 
 -- 01, Extend: "the lowest start of c free blocks in a row".
 unfoldable pub runStart : List ℕ → ℕ → ℕ

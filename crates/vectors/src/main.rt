@@ -11,7 +11,7 @@ use ods1::files::ods1_map;
 use ods1::files::ods1_open_file;
 use ods1::verdicts::ods1_judge;
 use ods1::volumes::ods1_open_volume;
-use volume::volume::map_blocks;
+use volume::map_blocks;
 
 // Writes text.
 fn say(text: &[u8]) {

@@ -7,16 +7,16 @@ use native.Mathlib.Numerals.{add-one}
 use native.Mathlib.Omega.{arith}
 use lib.Dec.{eqb, leb}
 use lib.ListN.{length}
-use Rattle.image.specs.Bits.{bitAt}
+use Rattle.image.specs.Bits.{bitAt, isSet}
 use Rattle.home.specs.Home.{blocks}
-use Rattle.volume.specs.Volume.{fmax, indexMap, inUse, mapBlocks, storageMap}
+use Rattle.volume.specs.Volume.{fmax, indexMap, inUse, mapBlocks, storageMap, mapBits}
 use Rattle.volume.proofs.VolumeLaws.{Opens, storageMap-length}
-use Rattle.marks.specs.Counts.{oneIf, count, howMany}
-use Rattle.marks.specs.Marks.{tallied, marked, isSet}
-use Rattle.marks.proofs.CountLaws.{howMany-none, howMany-more, howMany-same}
+use Rattle.lists.specs.Counts.{oneIf, count, howMany}
+use Rattle.marks.specs.Marks.{tallied, marked}
+use Rattle.lists.proofs.CountLaws.{howMany-none, howMany-more, howMany-same}
 use Rattle.marks.proofs.MarkLaws.{tallied-marked}
 use Rattle.slots.proofs.SlotLaws.{in-use-bit}
-use Rattle.covers.specs.Covered.{covered, mapBits}
+use Rattle.covers.specs.Covered.{covered}
 use Rattle.verdict.specs.Verdict.{isCovered, claimed, free, headersInUse}
 
 pub claimed-marked : (image area : List ℕ) → area ≡ tallied (covered image) 0 (blocks image) area → howMany (marked area) 0 (blocks image) ≡ claimed image

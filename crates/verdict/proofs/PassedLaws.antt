@@ -14,10 +14,10 @@ use Rattle.home.specs.Home.{blocks}
 use Rattle.volume.specs.Volume.{fmax}
 use Rattle.volume.specs.Opening.{openVolume}
 use Rattle.marks.specs.Marks.{tallied}
-use Rattle.numbers.specs.Files.{files}
-use Rattle.numbers.specs.Links.{links}
+use Rattle.files.specs.Files.{files}
+use Rattle.links.specs.Links.{links}
 use Rattle.covers.specs.Covered.{covered, twice, map}
-use Rattle.covers.specs.Homes.{badHome}
+use Rattle.bad_home.specs.Homes.{badHome}
 use Rattle.verdict.specs.Verdict.{roomy, ready, verdict, afterwards, blockMarks}
 
 module _ (image : List ℕ) (b h : ℕ) where

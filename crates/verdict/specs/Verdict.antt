@@ -9,14 +9,15 @@ use Rattle.answer.specs.declared.outcome.Outcome.{Outcome}
 use Rattle.answer.specs.declared.outcome.Outcome.the-variants as outcome
 use Rattle.answer.specs.Outcome.{unless, _then_}
 use Rattle.home.specs.Home.{blocks}
-use Rattle.volume.specs.Volume.{fmax, inUse, storageMap}
+use Rattle.volume.specs.Volume.{fmax, inUse, storageMap, mapBits}
 use Rattle.volume.specs.Opening.{openVolume}
-use Rattle.marks.specs.Counts.{count, howMany}
-use Rattle.marks.specs.Marks.{tallied, isSet}
-use Rattle.numbers.specs.Files.{files}
-use Rattle.numbers.specs.Links.{linked, links}
-use Rattle.covers.specs.Covered.{covered, twice, mapBits, map}
-use Rattle.covers.specs.Homes.{badHome}
+use Rattle.lists.specs.Counts.{count, howMany}
+use Rattle.marks.specs.Marks.{tallied}
+use Rattle.image.specs.Bits.{isSet}
+use Rattle.files.specs.Files.{files}
+use Rattle.links.specs.Links.{linked, links}
+use Rattle.covers.specs.Covered.{covered, twice, map}
+use Rattle.bad_home.specs.Homes.{badHome}
 use Rattle.verdict.specs.declared.judging.Counts.{Counts}
 use Rattle.verdict.specs.declared.judging.Judged.{Judged}
 use Rattle.verdict.specs.declared.judging.Judged.the-variants.{Done, Refused}

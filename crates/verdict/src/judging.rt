@@ -1,20 +1,20 @@
 // The verdict, in its order, and its counts.
 use answer::outcome::Outcome;
 use answer::refusal::Refusal;
-use covers::covered::cover;
-use covers::covered::map;
-use covers::covered::twice;
-use covers::homes::bad_home;
+use bad_home::bad_home;
+use covers::cover;
+use covers::map;
+use covers::twice;
+use files::files;
 use image::blocks::region;
-use marks::maps::count_first_set;
-use marks::maps::count_set;
-use marks::marks::count_marked;
-use numbers::files::files;
-use numbers::links::links;
-use volume::opening::open;
-use volume::volume::Places;
-use volume::volume::Volume;
-use volume::volume::map_blocks;
+use links::links;
+use map_bits::count_first_set;
+use map_bits::count_set;
+use marks::count_marked;
+use open_volume::open;
+use volume::Places;
+use volume::Volume;
+use volume::map_blocks;
 ghost use mathlib.Core.Path.{_≡_};
 ghost use mathlib.Core.Bool.{_&&_};
 ghost use Prim.Native.Nat.{_≤_};
@@ -27,10 +27,10 @@ ghost use Rattle.home.specs.Home.{blocks};
 ghost use Rattle.volume.specs.Volume.{fmax, volumeOf, placesOf};
 ghost use Rattle.volume.specs.Opening.{Open, Recorded};
 ghost use Rattle.marks.specs.Marks.{tallied};
-ghost use Rattle.numbers.specs.Files.{files};
-ghost use Rattle.numbers.specs.Links.{linked, links};
+ghost use Rattle.files.specs.Files.{files};
+ghost use Rattle.links.specs.Links.{linked, links};
 ghost use Rattle.covers.specs.Covered.{covered, twice, map};
-ghost use Rattle.covers.specs.Homes.{badHome};
+ghost use Rattle.bad_home.specs.Homes.{badHome};
 ghost use Rattle.verdict.specs.Verdict.{verdict, afterwards, headerMarks, blockMarks, countsOf, verdictAnswer};
 
 // The verdict's four counts.

@@ -17,12 +17,12 @@ use Rattle.image.specs.Stores.{zeros}
 use Rattle.image.proofs.BlockLaws.{block-length, block-bytes}
 use Rattle.answer.specs.declared.types.Lbn.{Lbn}
 use Rattle.header.specs.Fields.{hFseq, mapArea, segment, mEfnu, mEfsq, mUse}
-use Rattle.header.specs.Pointers.{pointerCount, runs, pointersAt, pointers, Fits, blocksOf, placeIn}
-use Rattle.header.specs.declared.pointers.Place.{Place}
-use Rattle.header.specs.declared.pointers.Place.the-variants.{At, Past}
-use Rattle.header.specs.Whole.{fault}
-use Rattle.header.proofs.PointerLaws.{place-at, place-past, runs-none, runs-length}
-use Rattle.header.proofs.WholeLaws.{whole-fits, whole-inside}
+use Rattle.pointers.specs.Pointers.{pointerCount, runs, pointersAt, pointers, Fits, blocksOf, placeIn}
+use Rattle.pointers.specs.declared.Place.{Place}
+use Rattle.pointers.specs.declared.Place.the-variants.{At, Past}
+use Rattle.whole.specs.Whole.{fault}
+use Rattle.pointers.proofs.PointerLaws.{place-at, place-past, runs-none, runs-length}
+use Rattle.whole.proofs.WholeLaws.{whole-fits, whole-inside}
 use Rattle.home.specs.Home.{blocks}
 use Rattle.volume.specs.Volume.{ibsz, iblb, fmax, indexMap, inUse, indexHeader, partSlot, partSlots, follows, leadsOn, placesFrom, places, mappedBy, index, indexEnds, padded}
 

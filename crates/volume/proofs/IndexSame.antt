@@ -9,7 +9,7 @@ use borrow.Author.Tests.{eqb-true}
 use lib.ListN.{length, getD}
 use Rattle.image.specs.Blocks.{block}
 use Rattle.header.specs.Fields.{mEfnu}
-use Rattle.header.specs.Pointers.{blocksOf}
+use Rattle.pointers.specs.Pointers.{blocksOf}
 use Rattle.home.specs.Home.{blocks}
 use Rattle.volume.specs.Volume.{ibsz, iblb, inUse, partSlot, leadsOn, placesFrom, places, mappedBy, index, indexEnds}
 use Rattle.volume.proofs.IndexLaws.{mapped-none, mapped-more, from-first, from-end, from-more, from-none, from-last, leads, leads-none, used-low}

@@ -2,4 +2,3 @@ pub mod IndexLaws
 pub mod IndexSame
 pub mod OpeningLaws
 pub mod VolumeLaws
-pub mod WalkLaws

@@ -9,22 +9,19 @@ use native.Mathlib.Omega.{arith}
 use borrow.Author.Tests.{eqb-true, leb-true, ltb-true, eq-eqb, ne-eqb, le-leb, lt-leb}
 use lib.Dec.{eqb, leb}
 use lib.ListN.{length, getD}
-use Rattle.image.specs.First.{below}
+use Rattle.lists.specs.First.{below}
+use Rattle.lists.proofs.BelowLaws.{below-at, below-all}
 use Rattle.image.specs.Blocks.{block}
-use Rattle.image.proofs.Below.{below-at, below-all}
 use Rattle.image.proofs.BlockLaws.{block-length}
-use Rattle.answer.specs.declared.refusal.Refusal.{Refusal}
 use Rattle.answer.specs.declared.refusal.Refusal.the-variants as refusal
 use Rattle.answer.specs.declared.outcome.Outcome.the-variants.{Passed, Refused}
 use Rattle.answer.specs.Outcome.{unless, _then_}
-use Rattle.answer.proofs.OutcomeLaws.{refused-not}
-use Rattle.header.specs.Pointers.{pointerLbn, pointerCount, runs, pointersAt, pointers, blocksOf}
-use Rattle.header.proofs.PointerLaws.{runs-none, runs-length, runs-at}
+use Rattle.pointers.specs.Pointers.{pointerLbn, pointerCount, runs, pointersAt, pointers, blocksOf}
+use Rattle.pointers.proofs.PointerLaws.{runs-none, runs-length, runs-at}
 use Rattle.home.specs.Home.{blocks, positions, homeIndex, home}
 use Rattle.home.proofs.HomeLaws.{position-below}
-use Rattle.volume.specs.declared.opening.OpenVolume.{OpenVolume}
 use Rattle.volume.specs.Volume.{ibsz, iblb, fmax}
-use Rattle.volume.specs.Opening.{sized, homed, indexMapBlocks, geometry, indexLbn, indexAt, indexMapped, indexed, storageMapped, stored, openVolume, TellsVolume}
+use Rattle.volume.specs.Opening.{sized, homed, indexMapBlocks, geometry, indexLbn, indexAt, indexMapped, indexed, storageMapped, stored, openVolume}
 
 -- Three tests in a row.
 pub three : (a b c : Bool) → (a && b && c) ≡ true → (a ≡ true) × (b ≡ true) × (c ≡ true)
@@ -58,10 +55,6 @@ module _ (image : List ℕ) where
   home-length s h =
       let n = sized-is s in
       block-length image (home image) (omega (arith, n .0, home-inside (n .1) (ltb-true (homeIndex image) (positions (blocks image)) h)))
-
--- A refusal, and what a volume is then said to be.
-pub open-refused : (image : List ℕ) (r : Refusal) (o : OpenVolume) (at : List ℕ) → o .outcome ≡ Refused r → openVolume image ≡ Refused r → TellsVolume image o at
-open-refused image r o at e f = (e ∙ sym f, λ p. absurd (refused-not r (sym f ∙ p)), λ p. absurd (refused-not r (sym f ∙ p)))
 
 -- What opening answers, by the first test that is not met.
 module _ (image : List ℕ) where

@@ -11,8 +11,8 @@ use lib.ListN.{length, getD, take, length-append, List·getD-append}
 use lib.Seq.{getD-take}
 use Rattle.image.specs.Words.{byteAt, Bytes}
 use Rattle.image.specs.Blocks.{block}
-use Rattle.image.specs.First.{below}
-use Rattle.image.proofs.Below.{below-at, below-all}
+use Rattle.lists.specs.First.{below}
+use Rattle.lists.proofs.BelowLaws.{below-at, below-all}
 use Rattle.image.proofs.WordLaws.{word-below}
 use Rattle.image.proofs.BlockLaws.{region-length, block-length, block-bytes}
 use Rattle.answer.specs.declared.types.Lbn.{Lbn}
@@ -20,17 +20,17 @@ use Rattle.answer.specs.declared.refusal.Refusal.the-variants as refusal
 use Rattle.answer.specs.declared.outcome.Outcome.the-variants.{Passed}
 use Rattle.answer.proofs.OutcomeLaws.{passed-last, passed-first}
 use Rattle.header.specs.Fields.{hFseq, segment, mEfnu}
-use Rattle.header.specs.Pointers.{Fits, blocksOf, placeIn}
-use Rattle.header.specs.declared.pointers.Place.{Place}
-use Rattle.header.specs.declared.pointers.Place.the-variants as place
-use Rattle.header.specs.Whole.{fault}
-use Rattle.header.proofs.PointerLaws.{place-at, place-past}
-use Rattle.header.proofs.WholeLaws.{whole-fits, whole-inside}
+use Rattle.pointers.specs.Pointers.{Fits, blocksOf, placeIn}
+use Rattle.pointers.specs.declared.Place.{Place}
+use Rattle.pointers.specs.declared.Place.the-variants as place
+use Rattle.whole.specs.Whole.{fault}
+use Rattle.pointers.proofs.PointerLaws.{place-at, place-past}
+use Rattle.whole.proofs.WholeLaws.{whole-fits, whole-inside}
 use Rattle.home.specs.Home.{hFmax, blocks, positions, homeIndex, home}
 use Rattle.volume.specs.Volume.{ibsz, iblb, fmax, indexHeader, places, index, indexEnds, placesOf, slot, slots, hasSlot, slotOf, header, indexMap, mapBlocks, base, storageMap, volumeOf}
-use Rattle.volume.specs.declared.volume.Volume.{Volume}
-use Rattle.volume.specs.declared.volume.Slot.{Slot}
-use Rattle.volume.specs.declared.volume.Slot.the-variants.{At, Missing}
+use Rattle.volume.specs.declared.Volume.{Volume}
+use Rattle.volume.specs.declared.Slot.{Slot}
+use Rattle.volume.specs.declared.Slot.the-variants.{At, Missing}
 use Rattle.volume.specs.Opening.{sized, homed, indexMapBlocks, geometry, heads, alone, indexLbn, indexAt, indexMapped, indexed, storageMapped, stored, openVolume, Mapped, FirstFit, Recorded, Laid}
 use Rattle.volume.proofs.IndexLaws.{AllLie, lies-fits, mapped-inside, places-lie, places-least, places-most, further, index-split, index-most, padded-take, padded-length}
 use Rattle.volume.proofs.OpeningLaws.{open-passed, three, sized-is, geometry-is, home-inside, indexLbn-boot, indexLbn-home, indexLbn-row, storage-long, storage-row}

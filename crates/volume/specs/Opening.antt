@@ -5,22 +5,19 @@ use mathlib.Core.List.{List}
 use Prim.Native.Nat.{ℕ, _+_, _*_, _-_, _/_, _≤_, _<_}
 use lib.Dec.{eqb, leb, ltb}
 use lib.ListN.{length, getD}
+use Rattle.lists.specs.First.{below}
 use Rattle.image.specs.Words.{byteAt}
 use Rattle.image.specs.Blocks.{block}
-use Rattle.image.specs.First.{below}
 use Rattle.answer.specs.declared.refusal.Refusal.the-variants as refusal
 use Rattle.answer.specs.declared.outcome.Outcome.{Outcome}
 use Rattle.answer.specs.declared.outcome.Outcome.the-variants as outcome
 use Rattle.answer.specs.Outcome.{unless, _then_}
 use Rattle.header.specs.Fields.{hFseq, segment, mEfnu}
-use Rattle.header.specs.Pointers.{pointerCount, pointersAt, pointers, Fits, blocksOf}
-use Rattle.header.specs.Whole.{fault}
+use Rattle.pointers.specs.Pointers.{pointerCount, pointersAt, pointers, Fits, blocksOf}
+use Rattle.whole.specs.Whole.{fault}
 use Rattle.home.specs.Home.{blocks, positions, homeIndex, home}
 use Rattle.volume.specs.Volume.{ibsz, iblb, fmax, indexHeader, places, indexEnds, padded, placesOf, header, mapBlocks, volumeOf}
-use Rattle.volume.specs.declared.volume.Volume.{Volume}
-use Rattle.volume.specs.declared.opening.OpenVolume.{OpenVolume}
-use Rattle.volume.specs.declared.opening.Opened.{Opened}
-use Rattle.volume.specs.declared.opening.Opened.the-variants.{Done, Refused}
+use Rattle.volume.specs.declared.Volume.{Volume}
 
 -- 01, The work and its edge: "a lent image of 512·N bytes, N from 100 to 1,044,480, else SIZE".
 unfoldable pub sized : List ℕ → Bool
@@ -86,15 +83,6 @@ openVolume image =
     then unless (indexed image) refusal.Index
     then unless (stored image) refusal.Storage
 
--- 01, Answer numbers: DONE has as value "the home LBN (open volume)".
-unfoldable pub openedVolume : Outcome → ℕ → Opened
-openedVolume outcome.Passed home = Done (record { 0 = home })
-openedVolume (outcome.Refused r) home = Refused r
-
--- The answer of opening a volume.
-unfoldable pub volumeAnswer : List ℕ → Opened
-volumeAnswer image = openedVolume (openVolume image) (home image)
-
 -- The index map has a bit for every number, and lies in the image.
 abbrev pub Mapped : List ℕ → Type 0
 Mapped image = (fmax image ≤ 4096 * ibsz image) × (512 * (iblb image + ibsz image) ≤ length image)
@@ -115,13 +103,6 @@ Open image v = (openVolume image ≡ outcome.Passed) × (v ≡ volumeOf image)
 -- The image opens, and v and at are the two parts of its volume record.
 abbrev pub Recorded : List ℕ → Volume → List ℕ → Type 0
 Recorded image v at = (openVolume image ≡ outcome.Passed) × (v ≡ volumeOf image) × (at ≡ placesOf image)
-
--- What opening tells: its outcome and, where that is passed, the volume record.
-abbrev pub TellsVolume : List ℕ → OpenVolume → List ℕ → Type 0
-TellsVolume image o at =
-    (o .outcome ≡ openVolume image)
-    × (openVolume image ≡ outcome.Passed → o .volume ≡ volumeOf image)
-    × (openVolume image ≡ outcome.Passed → at ≡ placesOf image)
 
 -- What v says of the image, but for the storage map.
 pub record Laid (image : List ℕ) (v : Volume) : Type 0 where

@@ -2,19 +2,19 @@
 -- "Slot" and "in use" are 01's words; "place" and "segment" of an index file's header are 02's.
 use mathlib.Core.Bool.{Bool, cond, _&&_}
 use mathlib.Core.List.{List, [], _∷_, _++_}
-use Prim.Native.Nat.{ℕ, zero, suc, _+_, _-_, _/_}
+use Prim.Native.Nat.{ℕ, zero, suc, _+_, _-_, _/_, _*_}
 use lib.Dec.{eqb, leb}
 use lib.ListN.{length, getD}
 use Rattle.image.specs.Blocks.{region, block}
 use Rattle.image.specs.Bits.{bitAt}
 use Rattle.image.specs.Stores.{zeros}
 use Rattle.header.specs.Fields.{hFseq, segment, mEfnu, mEfsq}
-use Rattle.header.specs.Pointers.{blocksOf}
-use Rattle.header.specs.Whole.{fault}
+use Rattle.pointers.specs.Pointers.{blocksOf}
+use Rattle.whole.specs.Whole.{fault}
 use Rattle.home.specs.Home.{hIbsz, hIblb, hFmax, blocks, home}
-use Rattle.volume.specs.declared.volume.Volume.{Volume}
-use Rattle.volume.specs.declared.volume.Slot.{Slot}
-use Rattle.volume.specs.declared.volume.Slot.the-variants.{At, Missing}
+use Rattle.volume.specs.declared.Volume.{Volume}
+use Rattle.volume.specs.declared.Slot.{Slot}
+use Rattle.volume.specs.declared.Slot.the-variants.{At, Missing}
 
 -- 01, Home block: H.IBSZ, H.IBLB and H.FMAX of the home. 01, Geometry: "m = H.IBSZ".
 unfoldable pub ibsz : List ℕ → ℕ
@@ -142,3 +142,7 @@ volumeOf image = record {
   base = base image;
   segments = length (places image);
 }
+
+-- How many bits the storage map of a volume of n blocks has.
+unfoldable pub mapBits : ℕ → ℕ
+mapBits n = 4096 * mapBlocks n

@@ -2,12 +2,13 @@
 use mathlib.Core.Path.{_≡_, refl, _∙_}
 use mathlib.Core.Bool.{not}
 use Prim.Native.Nat.{ℕ}
-use Rattle.image.specs.First.{first, below}
+use Rattle.lists.specs.First.{first, below}
 use Rattle.image.specs.Words.{wordAt}
 use Rattle.image.specs.Blocks.{region, block}
-use Rattle.image.specs.Bits.{bitOf, bitAt}
+use Rattle.image.specs.Bits.{bitOf, bitAt, isSet}
 use Rattle.image.specs.Sums.{wordSum, checksum}
-use Rattle.image.specs.Stores.{zeros, numbersFrom}
+use Rattle.image.specs.Stores.{zeros}
+use Rattle.lists.specs.Lists.{numbersFrom, every, lastOf}
 use Rattle.answer.specs.declared.refusal.Refusal.the-variants as refusal
 use Rattle.answer.specs.declared.outcome.Outcome.{Outcome}
 use Rattle.answer.specs.declared.outcome.Outcome.the-variants.{Passed, Refused}
@@ -15,21 +16,20 @@ use Rattle.answer.specs.Outcome.{unless, _then_}
 use Rattle.answer.proofs.OutcomeLaws.{then-passed}
 use Rattle.radix50.specs.Table.{charOf, hasChar, codeOf}
 use Rattle.radix50.specs.Words.{wordOf, charactersOf}
-use Rattle.text.specs.Parse.{codeAt, partWord}
+use Rattle.parse.specs.Parse.{codeAt, partWord}
 use Rattle.header.specs.Fields.{hIdof, hMpof, hFnum, hFseq, hFlev, userFlags, systemFlags, mapArea, segment, mErvn, mEfnu, mEfsq, mCtsz, mLbsz, mUse, mMax}
-use Rattle.header.specs.Pointers.{pointerLbn, pointerCount, run, runs, pointersAt, pointers, blocksOf}
-use Rattle.header.specs.Whole.{endsInside, linkTests, mapTests, tests, firstUnmet, fault}
+use Rattle.pointers.specs.Pointers.{pointerLbn, pointerCount, run, runs, pointersAt, pointers, blocksOf}
+use Rattle.whole.specs.Whole.{endsInside, linkTests, mapTests, tests, firstUnmet, fault}
 use Rattle.home.specs.Home.{hIbsz, hIblb, hFmax, hSbcl, hVlev, label, labelAt, isHome, blocks, position, positions, homeAt, homeIndex, home}
 use Rattle.volume.specs.Volume.{ibsz, iblb, fmax, indexHeader, follows, leadsOn, placesFrom, places, mappedBy, index, indexEnds, slot, slots, hasSlot, header, faultOf, indexMap, inUse, isNumber, mapBlocks, base, storageMap}
 use Rattle.volume.specs.Opening.{sized, homed, indexMapBlocks, geometry, heads, alone, indexLbn, indexAt, indexMapped, indexed, storageMapped, stored, openVolume}
-use Rattle.file.specs.Chains.{linksOn, goodLink, chain, chainOf, every, linkOf, goodChain, flat, fileBlocks}
-use Rattle.file.specs.Opening.{find, hasFlag, locked, access, chained, openFile}
-use Rattle.file.specs.Mapping.{hasVbn, lbnOf, findVbn, mapped, mapAnswer}
-use Rattle.marks.specs.Marks.{isSet}
+use Rattle.chains.specs.Chains.{linksOn, goodLink, chain, chainOf, linkOf, goodChain, flat, fileBlocks, lastNumber}
+use Rattle.open_file.specs.Opening.{find, hasFlag, locked, access, chained, openFile}
+use Rattle.mapping.specs.Mapping.{hasVbn, lbnOf, findVbn, mapped, mapAnswer}
 use Rattle.verdict.specs.Verdict.{verdict}
 use Rattle.runs.specs.Runs.{isFree, isRun, starts, lowestStart}
 use Rattle.update.specs.declared.answers.Extended.the-variants as answers
-use Rattle.update.specs.Extend.{isKnownNumber, isFixed, isCount, hasRoom, lastOf, lastNumber, runStart, hasRun, extendTests, extendOutcome, extended, extendAnswer}
+use Rattle.update.specs.Extend.{isKnownNumber, isFixed, isCount, hasRoom, runStart, hasRun, extendTests, extendOutcome, extended, extendAnswer}
 use Rattle.volume_v.specs.VolumeV.{words, join, homeBlock, indexMapBlock, headerBlock, endOfFile, storageMapBlock, directoryBlock, volumeV}
 use Rattle.volume_v.specs.Cases.{Cases, reads, dat, twoWords, file6}
 use Rattle.volume_v.proofs.Judged.{computed}

@@ -1,27 +1,28 @@
 -- The verdict on Volume V, computed; N and H.FMAX.
 use mathlib.Core.Path.{_≡_, refl}
 use Rattle.answer.specs.declared.outcome.Outcome.the-variants.{Passed}
-use Rattle.image.specs.First.{first, below}
+use Rattle.lists.specs.First.{first, below}
 use Rattle.image.specs.Words.{wordAt}
 use Rattle.image.specs.Blocks.{region, block}
 use Rattle.image.specs.Bits.{bitOf, bitAt}
 use Rattle.image.specs.Sums.{wordSum, checksum}
-use Rattle.image.specs.Stores.{zeros, numbersFrom}
+use Rattle.image.specs.Stores.{zeros}
+use Rattle.lists.specs.Lists.{numbersFrom, every}
 use Rattle.answer.specs.Outcome.{unless, _then_}
 use Rattle.header.specs.Fields.{hIdof, hMpof, hFnum, hFseq, hFlev, userFlags, systemFlags, mapArea, segment, mErvn, mEfnu, mEfsq, mCtsz, mLbsz, mUse, mMax}
-use Rattle.header.specs.Pointers.{pointerLbn, pointerCount, run, runs, pointersAt, pointers, blocksOf}
-use Rattle.header.specs.Whole.{endsInside, linkTests, mapTests, tests, firstUnmet, fault}
+use Rattle.pointers.specs.Pointers.{pointerLbn, pointerCount, run, runs, pointersAt, pointers, blocksOf}
+use Rattle.whole.specs.Whole.{endsInside, linkTests, mapTests, tests, firstUnmet, fault}
 use Rattle.home.specs.Home.{hIbsz, hIblb, hFmax, hSbcl, hVlev, label, labelAt, isHome, blocks, position, positions, homeAt, homeIndex, home}
-use Rattle.volume.specs.Volume.{ibsz, iblb, fmax, indexHeader, follows, leadsOn, placesFrom, places, mappedBy, index, indexEnds, slot, slots, hasSlot, header, faultOf, indexMap, inUse, isNumber, mapBlocks, base, storageMap}
+use Rattle.volume.specs.Volume.{ibsz, iblb, fmax, indexHeader, follows, leadsOn, placesFrom, places, mappedBy, index, indexEnds, slot, slots, hasSlot, header, faultOf, indexMap, inUse, isNumber, mapBlocks, base, storageMap, mapBits}
 use Rattle.volume.specs.Opening.{sized, homed, indexMapBlocks, geometry, heads, alone, indexLbn, indexAt, indexMapped, indexed, storageMapped, stored, openVolume}
-use Rattle.file.specs.Chains.{linksOn, goodLink, chain, chainOf, every, linkOf, goodChain, flat, fileBlocks}
+use Rattle.chains.specs.Chains.{linksOn, goodLink, chain, chainOf, linkOf, goodChain, flat, fileBlocks}
 use Rattle.volume_v.specs.VolumeV.{words, join, homeBlock, indexMapBlock, headerBlock, endOfFile, storageMapBlock, directoryBlock, volumeV}
-use Rattle.marks.specs.Counts.{count}
+use Rattle.lists.specs.Counts.{count}
 use Rattle.slots.specs.Slots.{gathered}
-use Rattle.numbers.specs.Files.{isKnown, badFile, filesPlace, files}
-use Rattle.numbers.specs.Links.{linkOf as linkList, linked, linksWanted, badLinks, linksPlace, links}
-use Rattle.covers.specs.Covered.{covered, coveredTwice, twicePlace, twice, mapBits, wrongBit, mapPlace, map}
-use Rattle.covers.specs.Homes.{leftOut, badHomeIndex, badHome}
+use Rattle.files.specs.Files.{isKnown, badFile, filesPlace, files}
+use Rattle.links.specs.Links.{linkOf as linkList, linked, linksWanted, badLinks, linksPlace, links}
+use Rattle.covers.specs.Covered.{covered, coveredTwice, twicePlace, twice, wrongBit, mapPlace, map}
+use Rattle.bad_home.specs.Homes.{leftOut, badHomeIndex, badHome}
 use Rattle.verdict.specs.Verdict.{roomy, ready, verdict}
 
 pub size : blocks volumeV ≡ 100

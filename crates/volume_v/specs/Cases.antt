@@ -8,10 +8,10 @@ use Rattle.answer.specs.declared.refusal.Refusal.the-variants as refusal
 use Rattle.answer.specs.declared.types.FileId.{FileId}
 use Rattle.radix50.specs.declared.words.Characters.the-variants.{Done, Refused}
 use Rattle.radix50.specs.Words.{charactersOf}
-use Rattle.text.specs.Parse.{partWord}
+use Rattle.parse.specs.Parse.{partWord}
 use Rattle.volume.specs.Opening.{indexMapBlocks}
-use Rattle.file.specs.declared.mapping.Mapped.the-variants as mapped
-use Rattle.file.specs.Mapping.{mapAnswer}
+use Rattle.mapping.specs.declared.Mapped.the-variants as mapped
+use Rattle.mapping.specs.Mapping.{mapAnswer}
 use Rattle.update.specs.declared.answers.Extended.the-variants as extended
 use Rattle.update.specs.Extend.{extendAnswer}
 use Rattle.volume_v.specs.VolumeV.{volumeV}

@@ -5,23 +5,23 @@ use mathlib.Core.List.{List, [], _∷_}
 use Prim.Native.Nat.{ℕ, zero, suc, _+_, _-_, _≤_, _<_}
 use native.Mathlib.Decide.{decLt}
 use native.Mathlib.Omega.{arith}
-use Rattle.image.proofs.First.{Is, first-has, first-on, first-here}
+use Rattle.lists.proofs.FirstLaws.{Is, first-has, first-on, first-here}
 use Rattle.answer.specs.declared.types.FileId.{FileId}
 use Rattle.answer.specs.declared.refusal.Refusal.{Refusal}
 use Rattle.answer.specs.declared.refusal.Refusal.the-variants.{Absent}
 use Rattle.answer.specs.declared.outcome.Outcome.{Outcome}
 use Rattle.answer.specs.declared.outcome.Outcome.the-variants as outcome
 use Rattle.answer.proofs.OutcomeLaws.{refused-not}
-use Rattle.file.specs.Chains.{fileBlocks}
-use Rattle.file.specs.Opening.{openFile}
+use Rattle.chains.specs.Chains.{fileBlocks}
+use Rattle.open_file.specs.Opening.{openFile}
 use Rattle.records.specs.Records.{isEmpty, isWanted}
 use Rattle.records.specs.declared.Entry.{Entry}
 use Rattle.records.specs.declared.Wanted.the-variants.{Any}
-use Rattle.directory.specs.Search.{wantedAt, recordCount}
-use Rattle.directory.specs.LookUp.{firstWanted, entryOfFile, findNext, nextRecord}
-use Rattle.directory.specs.declared.next.Stepped.{Stepped}
-use Rattle.directory.specs.declared.next.Stepped.the-variants.{Done, Refused}
-use Rattle.directory.proofs.LookUpLaws.{next-refused, next-absent, next-found}
+use Rattle.directory.specs.Search.{wantedAt, recordCount, firstWanted, entryOfFile}
+use Rattle.look_up.specs.LookUp.{findNext, nextRecord}
+use Rattle.look_up.specs.declared.Stepped.{Stepped}
+use Rattle.look_up.specs.declared.Stepped.the-variants.{Done, Refused}
+use Rattle.look_up.proofs.LookUpLaws.{next-refused, next-absent, next-found}
 use Rattle.walker.specs.Walker.{placeAfter, Answers, Told, answered, walked, filledFrom, Walks}
 
 not-true : (b : Bool) → not b ≡ true → b ≡ false

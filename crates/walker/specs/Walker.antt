@@ -7,13 +7,13 @@ use Rattle.answer.specs.declared.types.FileId.{FileId}
 use Rattle.answer.specs.declared.refusal.Refusal.{Refusal}
 use Rattle.answer.specs.declared.refusal.Refusal.the-variants.{Absent}
 use Rattle.answer.specs.declared.outcome.Outcome.the-variants as outcome
-use Rattle.file.specs.Opening.{openFile}
+use Rattle.open_file.specs.Opening.{openFile}
 use Rattle.records.specs.Records.{isEmpty}
 use Rattle.records.specs.declared.Entry.{Entry}
-use Rattle.directory.specs.Search.{recordCount}
-use Rattle.directory.specs.LookUp.{entryOfFile, nextRecord}
-use Rattle.directory.specs.declared.next.Stepped.{Stepped}
-use Rattle.directory.specs.declared.next.Stepped.the-variants.{Done, Refused}
+use Rattle.directory.specs.Search.{recordCount, entryOfFile}
+use Rattle.look_up.specs.LookUp.{nextRecord}
+use Rattle.look_up.specs.declared.Stepped.{Stepped}
+use Rattle.look_up.specs.declared.Stepped.the-variants.{Done, Refused}
 
 -- 01, Names and directories, of the walker: "after the last it answers ABSENT and stays there". The place that a walk goes on from after a step
 -- from a place.

@@ -2,13 +2,13 @@
 // borrow checker covers no function over a struct that holds a reference, so each is proved by hand; the work is done by `open_file`,
 // `next_record` and `place_after`, which take plain data and slices and are covered.
 use answer::types::FileId;
-use directory::next::Stepped;
-use directory::next::next_record;
-use file::opening::OpenedFile;
-use file::opening::open_file;
+use look_up::Stepped;
+use look_up::next_record;
+use open_file::OpenedFile;
+use open_file::open_file;
 ghost use mathlib.Core.Path.{_≡_};
-ghost use Rattle.file.specs.Opening.{openAnswer};
-ghost use Rattle.directory.specs.LookUp.{nextRecord};
+ghost use Rattle.open_file.specs.Opening.{openAnswer};
+ghost use Rattle.look_up.specs.LookUp.{nextRecord};
 ghost use Rattle.walker.specs.Walker.{placeAfter, Walks};
 
 // A walk: the image that is read, the directory's ID, and the place of the record to go on from.

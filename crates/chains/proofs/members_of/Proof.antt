@@ -8,9 +8,9 @@ use Rattle.image.specs.Words.{Bytes}
 use Rattle.image.specs.Blocks.{block}
 use Rattle.header.specs.Fields.{mEfnu}
 use Rattle.volume.specs.Volume.{slot, header}
-use Rattle.file.proofs.LinkLaws.{Linked}
+use Rattle.chains.proofs.LinkLaws.{Linked}
 use Rattle.chains.proofs.MemberLaws.{Gathers, gathers-start, gathers-room, gathers-end, gathers-linked, gathers-next}
-use Rattle.file.proofs.NumberLaws.{number-slot}
+use Rattle.chains.proofs.NumberLaws.{number-slot}
 use Rattle.chains.proofs.members_of.Statement.{statement}
 use Rattle.chains.proofs.members_of.Tie as tie
 

@@ -4,12 +4,12 @@ use mathlib.Core.Path.{_≡_, refl, sym, _∙_}
 use Prim.Native.Nat.{_-_, _≤_}
 use native.Mathlib.Omega.{arith}
 use denote.Ref.{now}
-use Rattle.image.specs.Stores.{zeros}
 use lib.ListN.{length}
+use Rattle.image.specs.Stores.{zeros}
 use Rattle.answer.specs.declared.outcome.Outcome.the-variants.{Passed}
-use Rattle.file.specs.Chains.{fileBlocks}
-use Rattle.file.specs.Opening.{openFile}
-use Rattle.file.proofs.OpeningLaws.{opened}
+use Rattle.chains.specs.Chains.{fileBlocks}
+use Rattle.open_file.specs.Opening.{openFile}
+use Rattle.open_file.proofs.OpeningLaws.{opened}
 use Rattle.extents.proofs.RowLaws.{Told, told}
 use Rattle.extents.proofs.ExtentLaws.{extent-refused, extent-zero, extent-beyond, extent-done}
 use Rattle.extents.proofs.extent_from.Statement.{statement}

@@ -5,8 +5,8 @@ use mathlib.Core.Path.{_≡_, sym, ap₂, _∙_}
 use Prim.Native.Nat.{_+_, _/_, _-_, _≤_}
 use denote.Ref.{now}
 use Rattle.image.specs.Blocks.{block}
-use Rattle.image.specs.First.{first}
-use Rattle.image.proofs.First.{first-here, first-on, first-none}
+use Rattle.lists.specs.First.{first}
+use Rattle.lists.proofs.FirstLaws.{first-here, first-on, first-none}
 use Rattle.image.proofs.BlockLaws.{block-length}
 use Rattle.home.specs.Home.{position, positions, homeAt, homeIndex}
 use Rattle.home.proofs.HomeLaws.{position-below, homeIndex-by}

@@ -5,7 +5,7 @@ use Prim.Native.Nat.{ℕ, _≤_, _-_}
 use denote.Ref.{now}
 use native.Mathlib.Omega.{arith}
 use native.Mathlib.Numerals.{add-one}
-use Rattle.image.specs.First.{below}
+use Rattle.lists.specs.First.{below}
 use Rattle.home.specs.Home.{label, labelAt}
 use Rattle.home.proofs.is_labelled.Statement.{statement}
 use Rattle.home.proofs.is_labelled.Tie as tie

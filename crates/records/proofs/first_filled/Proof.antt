@@ -4,8 +4,8 @@ use mathlib.Core.Path.{_≡_}
 use Prim.Native.Nat.{_-_, _≤_}
 use native.Mathlib.Omega.{arith}
 use denote.Ref.{now}
-use Rattle.image.specs.First.{first}
-use Rattle.image.proofs.First.{first-here, first-on, first-none}
+use Rattle.lists.specs.First.{first}
+use Rattle.lists.proofs.FirstLaws.{first-here, first-on, first-none}
 use Rattle.records.specs.Records.{wantedIn}
 use Rattle.records.specs.declared.Wanted.the-variants.{Any}
 use Rattle.records.proofs.first_filled.Statement.{statement}

@@ -44,26 +44,26 @@ use denote.Triple.Spec.{Meets, tripleOf}
 use denote.Triple.Table.{entered, cited}
 use denote.Triple.Walked.{says, Stays, stay-ref, walkOf, goes-ref, Walks, ends-at, walked, walk-meets}
 use denote.Triple.Clauses.{ensured, lasts}
+use Rattle.walker.proofs.Walker as T
+use Rattle.walker.proofs.place_after as after
+use Rattle.walker.proofs.next as next
 use Rattle.answer.proofs.types.FileId as F
 use Rattle.answer.proofs.types.FileId.Laws as F′
-use Rattle.directory.specs.LookUp.{nextRecord}
-use Rattle.directory.specs.declared.next.Stepped.{Stepped}
-use Rattle.directory.proofs.next.Stepped as S
-use Rattle.directory.proofs.next.Stepped.Laws as S′
-use Rattle.directory.proofs.next.next_record as record-next
-use Rattle.directory.proofs.next.next_record.Symbol as record-def
-use Rattle.directory.proofs.next.next_record.Symbol.{name as #next-record}
-use Rattle.directory.proofs.next.next_record.Met as record-thm
+use Rattle.look_up.specs.LookUp.{nextRecord}
+use Rattle.look_up.specs.declared.Stepped.{Stepped}
+use Rattle.look_up.proofs.Stepped as S
+use Rattle.look_up.proofs.Stepped.Laws as S′
+use Rattle.look_up.proofs.next_record as record-next
+use Rattle.look_up.proofs.next_record.Symbol as record-def
+use Rattle.look_up.proofs.next_record.Symbol.{name as #next-record}
+use Rattle.look_up.proofs.next_record.Met as record-thm
 use Rattle.walker.specs.Walker.{placeAfter}
 use Rattle.walker.specs.declared.Walker.{Walker}
-use Rattle.walker.proofs.Walker as T
 use Rattle.walker.proofs.Walker.Laws as T′
-use Rattle.walker.proofs.place_after as after
 use Rattle.walker.proofs.place_after.Symbol as after-def
 use Rattle.walker.proofs.place_after.Symbol.{name as #place-after}
 use Rattle.walker.proofs.place_after.Met as after-thm
 use Rattle.walker.proofs.next.Key.{name as #walker·next}
-use Rattle.walker.proofs.next as next
 use Rattle.walker.proofs.next.Statement as stated
 use Rattle.walker.proofs.next.Code as code
 
@@ -227,5 +227,5 @@ next-spec 𝓤 H 𝓜 𝓖 𝓡 =
     entered 𝓤 H (tripleOf 𝓤 H (𝓖 .A) next.signature (next.spec 𝓤 H (𝓖 .A) (𝓜 .mem) (𝓡 .run)))
     (tables 𝓤 H 𝓜 𝓡 code.env .C) (tables 𝓤 H 𝓜 𝓡 code.env .Λ) #walker·next code.function (code.unfolded 𝓤 H 𝓜 𝓡)
     (next-meets 𝓤 H (𝓖 .A) (givenOf 𝓤 H 𝓜 𝓖) (𝓜 .mem) (𝓡 .run) (tablesOf 𝓤 H 𝓜 (tables 𝓤 H 𝓜 𝓡 code.env))
-    (cited 𝓤 H (NextRecord 𝓤 H (𝓖 .A) (𝓜 .mem) (𝓡 .run)) 𝓜 𝓡 code.env #next-record record-def.routine code.calls-directory·next·next-record (record-thm.met 𝓤 H 𝓜 𝓖 𝓡))
+    (cited 𝓤 H (NextRecord 𝓤 H (𝓖 .A) (𝓜 .mem) (𝓡 .run)) 𝓜 𝓡 code.env #next-record record-def.routine code.calls-look-up·next-record (record-thm.met 𝓤 H 𝓜 𝓖 𝓡))
     (cited 𝓤 H (PlaceAfter 𝓤 H (𝓖 .A) (𝓜 .mem) (𝓡 .run)) 𝓜 𝓡 code.env #place-after after-def.routine code.calls-walker·place-after (after-thm.met 𝓤 H 𝓜 𝓖 𝓡)))

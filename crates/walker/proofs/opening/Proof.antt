@@ -40,21 +40,21 @@ use denote.Triple.Table.{entered, cited}
 use denote.Triple.Walked.{says, Stays, stay-none, walkOf, goes-none, Walks, ends-at, walked, walk-meets}
 use denote.Exit.{yes}
 use denote.Triple.Clauses.{ensured, lasts}
+use Rattle.walker.proofs.Walker as T
+use Rattle.walker.proofs.opening as opening
 use Rattle.answer.proofs.types.FileId as F
 use Rattle.answer.proofs.types.FileId.Laws as F′
-use Rattle.file.specs.Opening.{openAnswer}
-use Rattle.file.specs.declared.opening.OpenedFile.{OpenedFile}
-use Rattle.file.proofs.opening.OpenedFile as S
-use Rattle.file.proofs.opening.OpenedFile.Laws as S′
-use Rattle.file.proofs.opening.open_file as open-file
-use Rattle.file.proofs.opening.open_file.Symbol as open-file-def
-use Rattle.file.proofs.opening.open_file.Symbol.{name as #open-file}
-use Rattle.file.proofs.opening.open_file.Met as open-file-thm
+use Rattle.open_file.specs.Opening.{openAnswer}
+use Rattle.open_file.specs.declared.OpenedFile.{OpenedFile}
+use Rattle.open_file.proofs.OpenedFile as S
+use Rattle.open_file.proofs.OpenedFile.Laws as S′
+use Rattle.open_file.proofs.open_file as open-file
+use Rattle.open_file.proofs.open_file.Symbol as open-file-def
+use Rattle.open_file.proofs.open_file.Symbol.{name as #open-file}
+use Rattle.open_file.proofs.open_file.Met as open-file-thm
 use Rattle.walker.specs.declared.Walker.{Walker}
-use Rattle.walker.proofs.Walker as T
 use Rattle.walker.proofs.Walker.Laws as T′
 use Rattle.walker.proofs.opening.Key.{name as #walker·opening}
-use Rattle.walker.proofs.opening as opening
 use Rattle.walker.proofs.opening.Statement as stated
 use Rattle.walker.proofs.opening.Code as code
 
@@ -158,4 +158,4 @@ opening-spec 𝓤 H 𝓜 𝓖 𝓡 =
     entered 𝓤 H (tripleOf 𝓤 H (𝓖 .A) opening.signature (opening.spec 𝓤 H (𝓖 .A) (𝓜 .mem) (𝓡 .run)))
     (tables 𝓤 H 𝓜 𝓡 code.env .C) (tables 𝓤 H 𝓜 𝓡 code.env .Λ) #walker·opening code.function (code.unfolded 𝓤 H 𝓜 𝓡)
     (opening-meets 𝓤 H (𝓖 .A) (givenOf 𝓤 H 𝓜 𝓖) (𝓜 .mem) (𝓡 .run) (tablesOf 𝓤 H 𝓜 (tables 𝓤 H 𝓜 𝓡 code.env))
-    (cited 𝓤 H (OpenFile 𝓤 H (𝓖 .A) (𝓜 .mem) (𝓡 .run)) 𝓜 𝓡 code.env #open-file open-file-def.routine code.calls-file·opening·open-file (open-file-thm.met 𝓤 H 𝓜 𝓖 𝓡)))
+    (cited 𝓤 H (OpenFile 𝓤 H (𝓖 .A) (𝓜 .mem) (𝓡 .run)) 𝓜 𝓡 code.env #open-file open-file-def.routine code.calls-open-file·open-file (open-file-thm.met 𝓤 H 𝓜 𝓖 𝓡)))

@@ -40,21 +40,21 @@ use denote.Triple.Table.{entered, cited}
 use denote.Triple.Walked.{says, Stays, stay-none, walkOf, goes-none, Walks, ends-at, walked, walk-meets}
 use denote.Exit.{yes}
 use denote.Triple.Clauses.{ensured, lasts}
+use Rattle.walker.proofs.Walker as T
+use Rattle.walker.proofs.step as step
 use Rattle.answer.proofs.types.FileId as F
 use Rattle.answer.proofs.types.FileId.Laws as F′
-use Rattle.directory.specs.LookUp.{nextRecord}
-use Rattle.directory.specs.declared.next.Stepped.{Stepped}
-use Rattle.directory.proofs.next.Stepped as S
-use Rattle.directory.proofs.next.Stepped.Laws as S′
-use Rattle.directory.proofs.next.next_record as record-next
-use Rattle.directory.proofs.next.next_record.Symbol as record-def
-use Rattle.directory.proofs.next.next_record.Symbol.{name as #next-record}
-use Rattle.directory.proofs.next.next_record.Met as record-thm
+use Rattle.look_up.specs.LookUp.{nextRecord}
+use Rattle.look_up.specs.declared.Stepped.{Stepped}
+use Rattle.look_up.proofs.Stepped as S
+use Rattle.look_up.proofs.Stepped.Laws as S′
+use Rattle.look_up.proofs.next_record as record-next
+use Rattle.look_up.proofs.next_record.Symbol as record-def
+use Rattle.look_up.proofs.next_record.Symbol.{name as #next-record}
+use Rattle.look_up.proofs.next_record.Met as record-thm
 use Rattle.walker.specs.declared.Walker.{Walker}
-use Rattle.walker.proofs.Walker as T
 use Rattle.walker.proofs.Walker.Laws as T′
 use Rattle.walker.proofs.step.Key.{name as #walker·step}
-use Rattle.walker.proofs.step as step
 use Rattle.walker.proofs.step.Statement as stated
 use Rattle.walker.proofs.step.Code as code
 
@@ -158,4 +158,4 @@ step-spec 𝓤 H 𝓜 𝓖 𝓡 =
     entered 𝓤 H (tripleOf 𝓤 H (𝓖 .A) step.signature (step.spec 𝓤 H (𝓖 .A) (𝓜 .mem) (𝓡 .run)))
     (tables 𝓤 H 𝓜 𝓡 code.env .C) (tables 𝓤 H 𝓜 𝓡 code.env .Λ) #walker·step code.function (code.unfolded 𝓤 H 𝓜 𝓡)
     (step-meets 𝓤 H (𝓖 .A) (givenOf 𝓤 H 𝓜 𝓖) (𝓜 .mem) (𝓡 .run) (tablesOf 𝓤 H 𝓜 (tables 𝓤 H 𝓜 𝓡 code.env))
-    (cited 𝓤 H (NextRecord 𝓤 H (𝓖 .A) (𝓜 .mem) (𝓡 .run)) 𝓜 𝓡 code.env #next-record record-def.routine code.calls-directory·next·next-record (record-thm.met 𝓤 H 𝓜 𝓖 𝓡)))
+    (cited 𝓤 H (NextRecord 𝓤 H (𝓖 .A) (𝓜 .mem) (𝓡 .run)) 𝓜 𝓡 code.env #next-record record-def.routine code.calls-look-up·next-record (record-thm.met 𝓤 H 𝓜 𝓖 𝓡)))

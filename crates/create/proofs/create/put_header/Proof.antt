@@ -4,8 +4,8 @@ use mathlib.Core.List.{List}
 use native.Mathlib.Omega.{arith}
 use Prim.Native.Nat.{ℕ, _+_, _*_, _-_}
 use denote.Ref.{now}
-use Rattle.edits.specs.Fresh.{freshHeader}
-use Rattle.update.proofs.WriteLaws.{part-block}
+use Rattle.fresh_header.specs.Fresh.{freshHeader}
+use Rattle.image.proofs.WriteLaws.{part-block}
 use Rattle.create.proofs.create.put_header.Statement.{statement}
 use Rattle.create.proofs.create.put_header.Tie as tie
 

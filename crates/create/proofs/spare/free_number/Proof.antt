@@ -4,8 +4,8 @@ use native.Mathlib.Omega.{arith}
 use mathlib.Core.Path.{_≡_, sym, ap, _∙_}
 use Prim.Native.Nat.{_+_, _-_, _≤_, _<_}
 use denote.Ref.{now}
-use Rattle.image.specs.First.{first}
-use Rattle.image.proofs.First.{first-here, first-on, first-none}
+use Rattle.lists.specs.First.{first}
+use Rattle.lists.proofs.FirstLaws.{first-here, first-on, first-none}
 use Rattle.volume.specs.Volume.{fmax}
 use Rattle.volume.proofs.VolumeLaws.{opens}
 use Rattle.slots.specs.Slots.{Stands}

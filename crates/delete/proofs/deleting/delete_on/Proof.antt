@@ -9,8 +9,8 @@ use Rattle.answer.specs.declared.types.FileId.{FileId}
 use Rattle.answer.specs.declared.refusal.Refusal.the-variants as refusal
 use Rattle.answer.specs.declared.outcome.Outcome.the-variants.{Passed}
 use Rattle.answer.specs.Outcome.{_then_}
-use Rattle.file.specs.Opening.{find, access, chained, openFile}
-use Rattle.file.proofs.OpeningLaws.{opened}
+use Rattle.open_file.specs.Opening.{find, access, chained, openFile}
+use Rattle.open_file.proofs.OpeningLaws.{opened}
 use Rattle.update.specs.Delete.{deleteTests}
 use Rattle.delete.proofs.OutcomeLaws.{open-row, tests-refused, tests-known, tests-passed, answer-refused, answer-done}
 use Rattle.delete.proofs.deleting.delete_on.Statement.{statement}

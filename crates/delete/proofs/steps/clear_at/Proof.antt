@@ -3,8 +3,8 @@ use Prim.Native.Nat.{_+_, _*_, _-_}
 use native.Mathlib.Omega.{arith}
 use denote.Ref.{now}
 use borrow.Author.Needs.{needs}
-use Rattle.edits.specs.Cleared.{clearedSlot}
-use Rattle.update.proofs.WriteLaws.{part-block}
+use Rattle.header_edit.specs.Cleared.{clearedSlot}
+use Rattle.image.proofs.WriteLaws.{part-block}
 use Rattle.delete.proofs.steps.clear_at.Statement.{statement}
 use Rattle.delete.proofs.steps.clear_at.Tie as tie
 

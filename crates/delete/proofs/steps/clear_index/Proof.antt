@@ -5,7 +5,7 @@ use native.Mathlib.Omega.{arith}
 use denote.Ref.{now}
 use lib.ListN.{length, take}
 use borrow.Author.Needs.{needs}
-use Rattle.update.specs.Writes.{putMapBits}
+use Rattle.image.specs.Stores.{putMapBits}
 use Rattle.update.specs.Delete.{indexBits}
 use Rattle.delete.proofs.StepLaws.{put-none, put-more, indexBits-none, indexBits-more}
 use Rattle.delete.proofs.steps.clear_index.Statement.{statement}

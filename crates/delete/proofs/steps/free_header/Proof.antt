@@ -7,9 +7,9 @@ use denote.Ref.{now}
 use lib.ListN.{length}
 use borrow.Author.Needs.{needs}
 use Rattle.image.specs.Blocks.{block}
-use Rattle.header.specs.Pointers.{pointersAt, pointers, run, runs, blocksOf}
-use Rattle.header.proofs.PointerLaws.{runs-none, runs-more}
-use Rattle.update.specs.Writes.{putMapBits}
+use Rattle.pointers.specs.Pointers.{pointersAt, pointers, run, runs, blocksOf}
+use Rattle.pointers.proofs.PointerLaws.{runs-none, runs-more}
+use Rattle.image.specs.Stores.{putMapBits}
 use Rattle.delete.proofs.StepLaws.{put-none, put-more, put-outside, points-into}
 use Rattle.delete.proofs.steps.free_header.Statement.{statement}
 use Rattle.delete.proofs.steps.free_header.Tie as tie

@@ -6,7 +6,7 @@ use native.Mathlib.Omega.{arith}
 use denote.Ref.{now}
 use borrow.Author.Needs.{needs}
 use Rattle.image.specs.Blocks.{block}
-use Rattle.header.specs.Pointers.{pointerLbn, pointerCount, run}
+use Rattle.pointers.specs.Pointers.{pointerLbn, pointerCount, run}
 use Rattle.delete.proofs.steps.free_pointer.Statement.{statement}
 use Rattle.delete.proofs.steps.free_pointer.Tie as tie
 

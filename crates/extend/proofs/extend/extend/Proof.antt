@@ -3,15 +3,16 @@ use mathlib.Core.Path.{_≡_, refl, sym, ap, _∙_}
 use mathlib.Core.List.{List}
 use Prim.Native.Nat.{ℕ}
 use denote.Ref.{now}
-use Rattle.image.specs.Stores.{zeros}
 use lib.ListN.{length}
 use borrow.Author.Needs.{needs}
+use Rattle.image.specs.Stores.{zeros}
 use Rattle.answer.specs.declared.outcome.Outcome.{Outcome}
 use Rattle.answer.specs.declared.outcome.Outcome.the-variants as outcome
 use Rattle.verdict.specs.Verdict.{verdict, afterwards}
 use Rattle.verdict.proofs.PassedLaws.{passed-opens, passed-room}
 use Rattle.sound.proofs.ExactLaws.{verdict-judges}
-use Rattle.update.specs.Extend.{lastNumber, runStart, extended, extendAnswer, withBlocks, extendImage}
+use Rattle.chains.specs.Chains.{lastNumber}
+use Rattle.update.specs.Extend.{runStart, extended, extendAnswer, withBlocks, extendImage}
 use Rattle.update.proofs.DoneLaws.{image-refused}
 use Rattle.extend.proofs.TestLaws.{outcome-passed, outcome-refused, answer-refused}
 use Rattle.extend.proofs.extend.extend.Statement.{statement}

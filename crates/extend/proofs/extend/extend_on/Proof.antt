@@ -7,7 +7,8 @@ use denote.Ref.{now}
 use borrow.Author.Needs.{needs}
 use Rattle.volume.specs.Volume.{slot}
 use Rattle.volume.proofs.VolumeLaws.{opens}
-use Rattle.update.specs.Extend.{lastNumber, runStart, extendTests}
+use Rattle.chains.specs.Chains.{lastNumber}
+use Rattle.update.specs.Extend.{runStart, extendTests}
 use Rattle.update.proofs.Effects.{Good}
 use Rattle.update.proofs.PassedLaws.{extend-tested}
 use Rattle.extend.specs.declared.plan.Plan.the-variants as plan

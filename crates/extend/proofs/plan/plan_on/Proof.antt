@@ -8,7 +8,7 @@ use borrow.Author.Needs.{needs}
 use Rattle.image.specs.Blocks.{block}
 use Rattle.answer.specs.declared.outcome.Outcome.the-variants as outcome
 use Rattle.volume.specs.Volume.{slot, header}
-use Rattle.file.proofs.OpeningLaws.{Opened, opened}
+use Rattle.open_file.proofs.OpeningLaws.{Opened, opened}
 use Rattle.update.specs.Extend.{runStart}
 use Rattle.update.proofs.ExtendLaws.{count-range}
 use Rattle.extend.proofs.TestLaws.{admits, admits-count, finding, finding-is, tests-opening, tests-admits, tests-rooms, planned-refused, planned-at}

@@ -8,10 +8,10 @@ use denote.Ref.{now}
 use Rattle.image.specs.Words.{Bytes}
 use Rattle.header.specs.Fields.{segment, mEfnu}
 use Rattle.volume.specs.Volume.{header}
-use Rattle.file.specs.Chains.{goodLink}
-use Rattle.file.proofs.NumberLaws.{number-fits, segment-most}
-use Rattle.file.proofs.LinkLaws.{Linked, good-links}
-use Rattle.file.proofs.ChainLaws.{Walk, walk-start, walk-good}
+use Rattle.chains.specs.Chains.{goodLink}
+use Rattle.chains.proofs.NumberLaws.{number-fits, segment-most}
+use Rattle.chains.proofs.LinkLaws.{Linked, good-links}
+use Rattle.chains.proofs.ChainLaws.{Walk, walk-start, walk-good}
 use Rattle.extents.proofs.RowLaws.{Turn, turn-start, turn-end, turn-next}
 use Rattle.extents.proofs.rows.row_of.Statement.{statement}
 use Rattle.extents.proofs.rows.row_of.Tie as tie

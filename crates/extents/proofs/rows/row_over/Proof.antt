@@ -5,7 +5,7 @@ use mathlib.Core.Path.{_≡_, ap₂, sym, _∙_}
 use mathlib.Core.List.{List, _++_}
 use Prim.Native.Nat.{ℕ, _-_, _≤_}
 use denote.Ref.{now}
-use Rattle.header.specs.Pointers.{pointers, runs, blocksOf}
+use Rattle.pointers.specs.Pointers.{pointers, runs, blocksOf}
 use Rattle.extents.specs.Extents.{rowIn}
 use Rattle.extents.proofs.RowLaws.{row-no-pointer, row-pointer}
 use Rattle.extents.proofs.rows.row_over.Statement.{statement}

@@ -5,8 +5,8 @@ use mathlib.Core.Path.{_≡_, refl, sym, ap, ap₂, _∙_}
 use Prim.Native.Nat.{ℕ, _+_, _-_, _≤_}
 use denote.Ref.{now}
 use lib.ListN.{length}
-use Rattle.header.specs.Pointers.{pointersAt, pointers, runs, blocksOf}
-use Rattle.header.proofs.PointerLaws.{runs-none, runs-length}
+use Rattle.pointers.specs.Pointers.{pointersAt, pointers, runs, blocksOf}
+use Rattle.pointers.proofs.PointerLaws.{runs-none, runs-length}
 use Rattle.slots.proofs.SlotLaws.{run-here, run-none}
 use Rattle.slots.proofs.slots.run_at.Statement.{statement}
 use Rattle.slots.proofs.slots.run_at.Tie as tie

@@ -6,7 +6,7 @@ use Prim.Native.Nat.{ℕ, _+_, _*_, _-_, _≤_, _<_}
 use denote.Ref.{now}
 use lib.ListN.{length, getD}
 use Rattle.image.specs.Blocks.{block}
-use Rattle.header.specs.Pointers.{pointerLbn, pointerCount, Fits}
+use Rattle.pointers.specs.Pointers.{pointerLbn, pointerCount, Fits}
 use Rattle.volume.specs.Volume.{places}
 use Rattle.volume.proofs.VolumeLaws.{opens, headers-lie, headers-fit, says-segments, segments-least, segments-most, places-long, place-read}
 use Rattle.slots.specs.Slots.{Begins}

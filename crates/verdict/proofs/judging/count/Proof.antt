@@ -5,16 +5,17 @@ use Prim.Native.Nat.{ℕ}
 use native.Mathlib.Omega.{arith}
 use denote.Ref.{now}
 use lib.ListN.{length}
+use borrow.Author.Needs.{needs}
 use Rattle.image.specs.Blocks.{region}
 use Rattle.home.specs.Home.{blocks}
 use Rattle.volume.specs.Volume.{ibsz, fmax, indexMap, mapBlocks, storageMap}
 use Rattle.volume.specs.Opening.{Laid, indexMapBlocks}
 use Rattle.volume.proofs.VolumeLaws.{Opens, opens, says, says-base, fmax-below, storageMap-length, indexMap-length}
-use Rattle.marks.specs.Counts.{howMany}
-use Rattle.marks.specs.Marks.{marked, isSet}
+use Rattle.lists.specs.Counts.{howMany}
+use Rattle.marks.specs.Marks.{marked}
+use Rattle.image.specs.Bits.{isSet}
 use Rattle.verdict.specs.Verdict.{claimed, free, headersInUse, countsOf}
 use Rattle.verdict.proofs.CountingLaws.{claimed-marked, free-read, headers-read}
-use borrow.Author.Needs.{needs}
 use Rattle.verdict.proofs.judging.count.Statement.{statement}
 use Rattle.verdict.proofs.judging.count.Tie as tie
 

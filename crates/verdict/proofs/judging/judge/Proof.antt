@@ -4,16 +4,16 @@ use mathlib.Core.List.{List}
 use Prim.Native.Nat.{ℕ, _≤_}
 use native.Mathlib.Omega.{arith}
 use denote.Ref.{now}
-use Rattle.image.specs.Stores.{zeros}
 use lib.ListN.{length}
+use borrow.Author.Needs.{needs}
+use Rattle.image.specs.Stores.{zeros}
 use Rattle.answer.specs.declared.outcome.Outcome.the-variants as outcome
 use Rattle.home.specs.Home.{blocks}
 use Rattle.marks.proofs.MarkLaws.{tallied-length}
-use Rattle.numbers.proofs.LinksLaws.{tallied-still}
+use Rattle.links.proofs.LinksLaws.{tallied-still}
 use Rattle.covers.specs.Covered.{covered}
 use Rattle.verdict.specs.Verdict.{verdict, judged, verdictAnswer}
 use Rattle.verdict.proofs.PassedLaws.{passed-opens, passed-room, passed-marks}
-use borrow.Author.Needs.{needs}
 use Rattle.verdict.proofs.judging.judge.Statement.{statement}
 use Rattle.verdict.proofs.judging.judge.Tie as tie
 

@@ -5,14 +5,14 @@ use Prim.Native.Nat.{ℕ, _≤_}
 use native.Mathlib.Omega.{arith}
 use denote.Ref.{now}
 use lib.ListN.{length}
+use borrow.Author.Needs.{needs}
 use Rattle.answer.specs.declared.outcome.Outcome.the-variants as outcome
 use Rattle.answer.specs.Outcome.{_then_}
 use Rattle.home.specs.Home.{blocks}
 use Rattle.marks.specs.Marks.{tallied}
 use Rattle.marks.proofs.MarkLaws.{tallied-length}
-use Rattle.numbers.proofs.LinksLaws.{tallied-still}
+use Rattle.links.proofs.LinksLaws.{tallied-still}
 use Rattle.covers.specs.Covered.{covered, twice, map}
-use borrow.Author.Needs.{needs}
 use Rattle.verdict.proofs.judging.judge_blocks.Statement.{statement}
 use Rattle.verdict.proofs.judging.judge_blocks.Tie as tie
 

@@ -1,12 +1,12 @@
 -- FILES, then LINKS with the header marks, then the rest with the block marks.
 use mathlib.Core.Path.{_≡_, refl, sym, _∙_}
 use denote.Ref.{now}
+use borrow.Author.Needs.{needs}
 use Rattle.answer.specs.declared.outcome.Outcome.the-variants as outcome
 use Rattle.answer.specs.Outcome.{_then_}
-use Rattle.numbers.specs.Files.{files}
-use Rattle.numbers.specs.Links.{links}
+use Rattle.files.specs.Files.{files}
+use Rattle.links.specs.Links.{links}
 use Rattle.verdict.specs.Verdict.{afterwards}
-use borrow.Author.Needs.{needs}
 use Rattle.verdict.proofs.judging.judge_opened.Statement.{statement}
 use Rattle.verdict.proofs.judging.judge_opened.Tie as tie
 

@@ -1,0 +1,2 @@
+pub mod HomesLaws
+pub mod RaiseLaws

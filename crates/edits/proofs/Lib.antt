@@ -1,4 +1,0 @@
-pub mod ClearedLaws
-pub mod ExtendedLaws
-pub mod FreshLaws
-pub mod SealedLaws

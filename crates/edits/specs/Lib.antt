@@ -1,3 +1,0 @@
-pub mod Fresh
-pub mod Extended
-pub mod Cleared

@@ -1,3 +1,0 @@
-pub mod Volumes
-pub mod Headers
-pub mod Files

@@ -1,0 +1,35 @@
+-- Laws of the end of a file, and of what an opened file says.
+use mathlib.Core.Path.{_≡_}
+use mathlib.Core.List.{List}
+use Prim.Native.Nat.{ℕ, _+_, _*_, _-_, min}
+use borrow.Author.Tests.{eq-eqb, ne-eqb}
+use lib.ListN.{length}
+use Rattle.answer.specs.declared.types.FileId.{FileId}
+use Rattle.answer.specs.declared.refusal.Refusal.{Refusal}
+use Rattle.answer.specs.declared.outcome.Outcome.the-variants.{Passed, Refused}
+use Rattle.volume.specs.Volume.{header}
+use Rattle.chains.specs.Chains.{fileBlocks}
+use Rattle.open_file.specs.Opening.{openFile}
+use Rattle.file_facts.specs.declared.FileFacts.{FileFacts}
+use Rattle.file_facts.specs.declared.Described.the-variants as described
+use Rattle.file_facts.specs.Files.{fEfbk, fFfby, endOf, fileFacts, describedBy, fileAnswer}
+
+-- The attributes give no end, or they give one.
+module _ (h : List ℕ) (count : ℕ) where
+  pub end-none : fEfbk h ≡ 0 → endOf h count ≡ 512 * count
+  unfolding endOf
+  end-none e = rw (eq-eqb (fEfbk h) 0 e)
+
+  pub end-given : (fEfbk h ≡ 0 → ⊥) → endOf h count ≡ min (512 * (fEfbk h - 1) + fFfby h) (512 * count)
+  unfolding endOf
+  end-given e = rw (ne-eqb (fEfbk h) 0 e)
+
+module _ (image : List ℕ) (id : FileId) where
+  pub described-refused : (r : Refusal) → openFile image id ≡ Refused r → described.Refused r ≡ fileAnswer image id
+  unfolding fileAnswer describedBy
+  described-refused r e = rw e
+
+  pub described-done : openFile image id ≡ Passed → (f : FileFacts) → f ≡ fileFacts (header image (id .number)) (length (fileBlocks image (id .number)))
+      → described.Done f ≡ fileAnswer image id
+  unfolding fileAnswer describedBy
+  described-done e f s = rw (e, s)

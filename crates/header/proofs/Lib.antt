@@ -1,2 +1,0 @@
-pub mod PointerLaws
-pub mod WholeLaws

@@ -1,0 +1,2 @@
+pub mod ClearedLaws
+pub mod ExtendedLaws

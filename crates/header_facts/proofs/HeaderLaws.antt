@@ -1,0 +1,120 @@
+-- Laws of finding the header of a number, and of what is answered from it.
+use mathlib.Core.Path.{_≡_, sym, ap, _∙_}
+use mathlib.Core.Bool.{true, false}
+use mathlib.Core.List.{List}
+use Prim.Native.Nat.{ℕ, _+_, _*_, _≤_, _<_}
+use native.Mathlib.Omega.{arith}
+use borrow.Author.Tests.{eq-eqb, ne-eqb, eqb-true, lt-ltb, le-ltb}
+use lib.Dec.{eqb}
+use lib.ListN.{length}
+use Rattle.image.specs.Words.{wordAt}
+use Rattle.answer.specs.declared.types.Lbn.{Lbn}
+use Rattle.answer.specs.declared.types.Name.{Name}
+use Rattle.answer.specs.declared.refusal.Refusal.{Refusal}
+use Rattle.answer.specs.declared.refusal.Refusal.the-variants as refusal
+use Rattle.answer.specs.declared.outcome.Outcome.the-variants.{Passed, Refused}
+use Rattle.answer.specs.Outcome.{unless, _then_}
+use Rattle.answer.proofs.OutcomeLaws.{refused-not, passed-then, passed-last, passed-first}
+use Rattle.header.specs.Fields.{hIdof}
+use Rattle.pointers.specs.Pointers.{pointerLbn, pointerCount, pointers, Fits}
+use Rattle.whole.proofs.WholeLaws.{whole-is}
+use Rattle.home.specs.Home.{blocks}
+use Rattle.volume.specs.Volume.{slot, header, faultOf, isNumber}
+use Rattle.volume.specs.Opening.{openVolume}
+use Rattle.chains.proofs.NumberLaws.{number-length, number-fits}
+use Rattle.header_facts.specs.declared.HeaderFacts.{HeaderFacts}
+use Rattle.header_facts.specs.declared.Shown.the-variants as shown
+use Rattle.header_facts.specs.declared.Pointed.the-variants as pointed
+use Rattle.header_facts.specs.Headers.{findNumber, findHeader, identWord, identName, factsOf, shownBy, headerAnswer, pointerAt, findPointer, pointedBy, pointerAnswer}
+
+-- The five words from the ident area's first byte on are the name.
+module _ (h : List ℕ) (at : ℕ) (e : at ≡ 2 * hIdof h) where
+  ident-word : (k x : ℕ) → x ≡ at + 2 * k → wordAt h x ≡ identWord h k
+  unfolding identWord
+  ident-word k x f = ap (wordAt h) (omega arith)
+
+  pub ident-name : (name : Name) → name .name1 ≡ wordAt h at → name .name2 ≡ wordAt h (at + 2) → name .name3 ≡ wordAt h (at + 4)
+      → name .typ ≡ wordAt h (at + 6) → name .version ≡ wordAt h (at + 8) → name ≡ identName h
+  unfolding identName
+  ident-name name a b c d f = λ i. record {
+    name1 = (a ∙ ident-word 0 at (omega arith)) i;
+    name2 = (b ∙ ident-word 1 (at + 2) (omega arith)) i;
+    name3 = (c ∙ ident-word 2 (at + 4) (omega arith)) i;
+    typ = (d ∙ ident-word 3 (at + 6) (omega arith)) i;
+    version = (f ∙ ident-word 4 (at + 8) (omega arith)) i;
+  }
+
+module _ (image : List ℕ) (n : ℕ) where
+  -- What finding the header on an opened volume comes to, by its tests.
+  pub find-number : isNumber image n ≡ false → findNumber image n ≡ Refused refusal.Number
+  unfolding findNumber unless _then_
+  find-number u = rw u
+
+  module _ (u : isNumber image n ≡ true) where
+    pub find-unwhole : (faultOf image n ≡ 0 → ⊥) → findNumber image n ≡ Refused (refusal.Header (faultOf image n))
+    unfolding findNumber unless _then_
+    find-unwhole w = rw (u, ne-eqb (faultOf image n) 0 w)
+
+    pub find-passed : faultOf image n ≡ 0 → findNumber image n ≡ Passed
+    unfolding findNumber unless _then_
+    find-passed w = rw (u, eq-eqb (faultOf image n) 0 w)
+
+  -- What is refused lies nowhere.
+  pub refused-only : (r : Refusal) → findNumber image n ≡ Refused r → (lbn : ℕ) → findNumber image n ≡ Passed → lbn ≡ slot image n
+  refused-only r e lbn p = absurd (refused-not r (sym e ∙ p))
+
+  -- The volume is opened first.
+  pub find-closed : (r : Refusal) → openVolume image ≡ Refused r → findHeader image n ≡ Refused r
+  unfolding findHeader _then_
+  find-closed r o = rw o
+
+  pub find-opened : openVolume image ≡ Passed → findHeader image n ≡ findNumber image n
+  unfolding findHeader _then_
+  find-opened o = rw o
+
+  -- A header that was found is that of a number in use on a volume that opens, and is whole.
+  tested : findHeader image n ≡ Passed → (openVolume image ≡ Passed) × (isNumber image n ≡ true) × (faultOf image n ≡ 0)
+  unfolding findHeader findNumber
+  tested e =
+      let o = passed-then (openVolume image) _ e in
+      let u = passed-first (isNumber image n) refusal.Number _ (o .1) in
+      let w = passed-last (eqb (faultOf image n) 0) (refusal.Header (faultOf image n)) (u .1) in
+      (o .0, u .0, eqb-true (faultOf image n) 0 w)
+
+  -- Its pointers lie in it.
+  pub found-fits : findHeader image n ≡ Passed → Fits (header image n)
+  found-fits e = let t = tested e in number-fits image n (t .1) (t .0) (t .2)
+
+  -- And so does its ident area, which ends before the map area does.
+  pub found-ident : findHeader image n ≡ Passed → (length (header image n) ≡ 512) × (hIdof (header image n) ≤ 250)
+  unfolding faultOf
+  found-ident e =
+      let t = tested e in
+      let w = whole-is (blocks image) n (header image n) (t .2) in
+      (number-length image n (t .1) (t .0), omega (arith, w .map, w .room))
+
+  -- What the header says.
+  pub shown-refused : (r : Refusal) → findHeader image n ≡ Refused r → shown.Refused r ≡ headerAnswer image n
+  unfolding headerAnswer shownBy
+  shown-refused r e = rw e
+
+  pub shown-done : findHeader image n ≡ Passed → (f : HeaderFacts) → f ≡ factsOf (header image n) → shown.Done f ≡ headerAnswer image n
+  unfolding headerAnswer shownBy
+  shown-done e f s = rw (e, s)
+
+  -- A pointer of it.
+  module _ (p : ℕ) where
+    pub pointed-refused : (r : Refusal) → findHeader image n ≡ Refused r → pointed.Refused r ≡ pointerAnswer image n p
+    unfolding pointerAnswer pointedBy findPointer _then_
+    pointed-refused r e = rw e
+
+    module _ (e : findHeader image n ≡ Passed) where
+      pub pointed-absent : pointers (header image n) ≤ p → pointed.Refused refusal.Absent ≡ pointerAnswer image n p
+      unfolding pointerAnswer pointedBy findPointer unless _then_
+      pointed-absent l = rw (e, le-ltb p (pointers (header image n)) l)
+
+      pub pointed-done : p < pointers (header image n) → (lbn : Lbn) (count : ℕ)
+          → lbn .0 ≡ pointerLbn (header image n) (pointerAt (header image n) p) → count ≡ pointerCount (header image n) (pointerAt (header image n) p)
+          → pointed.Done lbn count ≡ pointerAnswer image n p
+      unfolding pointerAnswer pointedBy findPointer unless _then_
+      pointed-done l lbn count a b = rw (e, lt-ltb p (pointers (header image n)) l, ← a, ← b)

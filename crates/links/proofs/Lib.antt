@@ -1,0 +1,2 @@
+pub mod LinksLaws
+pub mod UnlinkedLaws

@@ -1,0 +1,5 @@
+pub mod BelowLaws
+pub mod FirstLaws
+pub mod NumbersLaws
+pub mod CountLaws
+pub mod SumLaws

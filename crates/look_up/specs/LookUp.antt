@@ -1,0 +1,56 @@
+-- Looking a name up, and a walk's next record.
+use mathlib.Core.List.{List}
+use Prim.Native.Nat.{ℕ, _+_}
+use lib.Dec.{ltb}
+use Rattle.answer.specs.declared.types.FileId.{FileId}
+use Rattle.answer.specs.declared.types.Name.{Name}
+use Rattle.answer.specs.declared.refusal.Refusal.the-variants as refusal
+use Rattle.answer.specs.declared.outcome.Outcome.{Outcome}
+use Rattle.answer.specs.declared.outcome.Outcome.the-variants as outcome
+use Rattle.answer.specs.Outcome.{unless, _then_}
+use Rattle.radix50.specs.Names.{proper}
+use Rattle.records.specs.declared.Entry.{Entry}
+use Rattle.records.specs.declared.Wanted.the-variants.{Any, Named}
+use Rattle.open_file.specs.Opening.{openFile}
+use Rattle.directory.specs.Search.{recordCount, firstWanted, entryOfFile}
+use Rattle.look_up.specs.declared.Found.{Found}
+use Rattle.look_up.specs.declared.Found.the-variants as found
+use Rattle.look_up.specs.declared.Stepped.{Stepped}
+use Rattle.look_up.specs.declared.Stepped.the-variants as stepped
+
+-- 01, Answer numbers: "Look-up tests 14 after 12", "15 ABSENT | no equal record".
+unfoldable pub findName : List ℕ → FileId → Name → Outcome
+findName image id name =
+    openFile image id
+    then unless (proper name) refusal.Name
+    then unless (ltb (firstWanted image (id .number) (Named name) 0) (recordCount image (id .number))) refusal.Absent
+
+unfoldable pub foundEntry : Outcome → FileId → Found
+foundEntry outcome.Passed id = found.Done id
+foundEntry (outcome.Refused r) id = found.Refused r
+
+-- 01, Names and directories: "Look-up gives the ID of the first equal record not empty, in VBN order, as stored, opened or not."
+unfoldable pub lookUp : List ℕ → FileId → Name → Found
+lookUp image id name = foundEntry (findName image id name) (entryOfFile image (id .number) (firstWanted image (id .number) (Named name) 0) .id)
+
+-- 01, Names and directories, of the walker: "opening one answers as opening its file does, and if refused it is there at once", past the last
+-- record. So a step in a file that does not open is ABSENT.
+unfoldable pub orAbsent : Outcome → Outcome
+orAbsent outcome.Passed = outcome.Passed
+orAbsent (outcome.Refused r) = outcome.Refused refusal.Absent
+
+-- 01, Names and directories, of the walker: "after the last it answers ABSENT and stays there".
+unfoldable pub findNext : List ℕ → FileId → ℕ → Outcome
+findNext image id place =
+    orAbsent (openFile image id)
+    then unless (ltb (firstWanted image (id .number) Any place) (recordCount image (id .number))) refusal.Absent
+
+unfoldable pub steppedTo : Outcome → Entry → ℕ → Stepped
+steppedTo outcome.Passed e next = stepped.Done e next
+steppedTo (outcome.Refused r) e next = stepped.Refused r
+
+-- 01, Names and directories: "Each step answers the next record that is not empty". The entry, and the place to go on from.
+unfoldable pub nextRecord : List ℕ → FileId → ℕ → Stepped
+nextRecord image id place =
+    let r = firstWanted image (id .number) Any place in
+    steppedTo (findNext image id place) (entryOfFile image (id .number) r) (r + 1)

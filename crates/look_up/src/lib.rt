@@ -1,0 +1,138 @@
+// The two calls on a directory: look-up by name, and the next record.
+use answer::outcome::Outcome;
+use answer::refusal::Refusal;
+use answer::types::FileId;
+use answer::types::FileNumber;
+use answer::types::Lbn;
+use answer::types::Name;
+use directory::entry_of_file;
+use directory::record_count;
+use directory::search_file;
+use open_file::open;
+use records::Entry;
+use records::Wanted;
+use volume::Places;
+use volume::Volume;
+ghost use mathlib.Core.Path.{_≡_};
+ghost use Rattle.answer.specs.declared.outcome.Outcome.the-variants.{Passed};
+ghost use Rattle.volume.specs.Volume.{slot, volumeOf, placesOf};
+ghost use Rattle.open_file.specs.Opening.{openFile};
+ghost use Rattle.directory.specs.Search.{recordCount};
+ghost use Rattle.look_up.specs.LookUp.{lookUp, nextRecord};
+
+// The answer of a look-up.
+pub enum Found {
+    // The ID as it is stored.
+    Done(FileId),
+    Refused(Refusal),
+}
+
+// A look-up in a directory that opens, of so many records: NAME, ABSENT.
+fn look_up_opened(
+    image: &[u8],
+    v: Volume,
+    places: &Places,
+    id: FileId,
+    lbn: Lbn,
+    count: u32,
+    name: Name,
+) -> Found
+    requires { ⌜ (openFile (now image) id ≡ Passed) × (v ≡ volumeOf (now image)) × (count ≡ recordCount (now image) (id .number)) × (lbn .0 ≡ slot (now image) (id .number)) × (now places ≡ placesOf (now image)) ⌝ }
+    ensures { λ r. ⌜ r ≡ lookUp (now (image .entry)) id name ⌝ }
+{
+    let good = radix50::is_proper(name);
+    if good {
+        let n = id.number as u32;
+        let r = search_file(
+            image,
+            v,
+            places,
+            FileNumber(n),
+            lbn,
+            0,
+            count,
+            Wanted::Named(name),
+        );
+        if count <= r {
+            return Found::Refused(Refusal::Absent);
+        }
+        let e = entry_of_file(image, v, places, FileNumber(n), lbn, r);
+        let stored = e.id;
+        return Found::Done(stored);
+    }
+    Found::Refused(Refusal::Name)
+}
+
+// The ID beside a name in a directory.
+pub fn look_up(image: &[u8], id: FileId, name: Name) -> Found
+    ensures { λ r. ⌜ r ≡ lookUp (now (image .entry)) id name ⌝ }
+{
+    let mut places = [0u32; 256];
+    let file = open(image, &mut places, id);
+    let outcome = file.outcome;
+    match outcome {
+        Outcome::Passed => look_up_opened(
+            image,
+            file.volume,
+            &places,
+            id,
+            file.header,
+            record_count(file.blocks),
+            name,
+        ),
+        Outcome::Refused(r) => Found::Refused(r),
+    }
+}
+
+// The answer of a step.
+pub enum Stepped {
+    // The record, and the place to go on from.
+    Done(Entry, u32),
+    Refused(Refusal),
+}
+
+// A step in a directory that opens, of so many records: ABSENT.
+fn next_opened(
+    image: &[u8],
+    v: Volume,
+    places: &Places,
+    id: FileId,
+    lbn: Lbn,
+    count: u32,
+    place: u32,
+) -> Stepped
+    requires { ⌜ (openFile (now image) id ≡ Passed) × (v ≡ volumeOf (now image)) × (count ≡ recordCount (now image) (id .number)) × (lbn .0 ≡ slot (now image) (id .number)) × (now places ≡ placesOf (now image)) ⌝ }
+    ensures { λ r. ⌜ r ≡ nextRecord (now (image .entry)) id place ⌝ }
+{
+    if count <= place {
+        return Stepped::Refused(Refusal::Absent);
+    }
+    let n = FileNumber(id.number as u32);
+    let r = search_file(image, v, places, n, lbn, place, count, Wanted::Any);
+    if count <= r {
+        return Stepped::Refused(Refusal::Absent);
+    }
+    let e = entry_of_file(image, v, places, n, lbn, r);
+    Stepped::Done(e, r + 1)
+}
+
+// The next record that is not empty, from a place on; ABSENT where there is none, and in a file that does not open.
+pub fn next_record(image: &[u8], id: FileId, place: u32) -> Stepped
+    ensures { λ r. ⌜ r ≡ nextRecord (now (image .entry)) id place ⌝ }
+{
+    let mut places = [0u32; 256];
+    let file = open(image, &mut places, id);
+    let outcome = file.outcome;
+    match outcome {
+        Outcome::Passed => next_opened(
+            image,
+            file.volume,
+            &places,
+            id,
+            file.header,
+            record_count(file.blocks),
+            place,
+        ),
+        Outcome::Refused(_) => Stepped::Refused(Refusal::Absent),
+    }
+}

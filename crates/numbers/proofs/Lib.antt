@@ -1,4 +1,0 @@
-pub mod SearchLaws
-pub mod FileLaws
-pub mod LinksLaws
-pub mod UnlinkedLaws

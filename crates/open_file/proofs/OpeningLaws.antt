@@ -1,0 +1,143 @@
+-- Laws of opening a file: what each part answers at the first test that is not met, and what a file that opens has.
+use mathlib.Core.Path.{_≡_, refl, sym, subst, _∙_}
+use mathlib.Core.Bool.{true, false, not}
+use mathlib.Core.List.{List}
+use Prim.Native.Nat.{ℕ}
+use native.Mathlib.Omega.{arith}
+use borrow.Author.Tests.{eq-eqb, ne-eqb, eqb-true, not-true}
+use lib.Dec.{eqb}
+use Rattle.answer.specs.declared.types.FileId.{FileId}
+use Rattle.answer.specs.declared.types.Lbn.{Lbn}
+use Rattle.answer.specs.declared.refusal.Refusal.{Refusal}
+use Rattle.answer.specs.declared.refusal.Refusal.the-variants as refusal
+use Rattle.answer.specs.declared.outcome.Outcome.{Outcome}
+use Rattle.answer.specs.declared.outcome.Outcome.the-variants.{Passed, Refused}
+use Rattle.answer.specs.Outcome.{unless, _then_}
+use Rattle.answer.proofs.OutcomeLaws.{refused-not, passed-then, passed-last, passed-first}
+use Rattle.header.specs.Fields.{hFseq, segment}
+use Rattle.volume.specs.Volume.{slot, header, faultOf, isNumber}
+use Rattle.volume.specs.Opening.{openVolume}
+use Rattle.chains.specs.Chains.{goodChain, IsFirst}
+use Rattle.open_file.specs.declared.Finding.{Finding}
+use Rattle.open_file.specs.declared.Finding.the-variants as findings
+use Rattle.open_file.specs.declared.OpenFile.{OpenFile}
+use Rattle.open_file.specs.Opening.{find, finding, locked, access, chained, openFile, Tells, TellsPlaces}
+
+-- A refusal tells nothing but itself.
+pub tells-refused : (image : List ℕ) (id : FileId) (result : Outcome) (r : Refusal) (file : OpenFile)
+    → result ≡ Refused r → file .outcome ≡ Refused r → file .blocks ≡ 0 → Tells image id result file
+tells-refused image id result r file e o b = (o ∙ sym e, λ p. absurd (refused-not r (sym e ∙ p)), omega arith)
+
+pub places-refused : (image : List ℕ) (id : FileId) (result : Outcome) (r : Refusal) (file : OpenFile) (at : List ℕ)
+    → result ≡ Refused r → file .outcome ≡ Refused r → file .blocks ≡ 0 → TellsPlaces image id result file at
+places-refused image id result r file at e o b =
+    let t = tells-refused image id result r file e o b in
+    (t .0, t .1, t .2, λ p. absurd (refused-not r (sym e ∙ p)))
+
+module _ (image : List ℕ) (id : FileId) where
+  -- What finding a header comes to, by its tests.
+  pub finding-at : find image id ≡ Passed → (lbn : Lbn) → lbn .0 ≡ slot image (id .number) → findings.At lbn ≡ finding (find image id) (slot image (id .number))
+  unfolding finding
+  finding-at e lbn s = rw (e, ← s)
+
+  pub finding-refused : (r : Refusal) → find image id ≡ Refused r → findings.Refused r ≡ finding (find image id) (slot image (id .number))
+  unfolding finding
+  finding-refused r e = rw e
+
+  -- What is known of the header by what finding it came to.
+  abbrev pub Found : Finding → Type 0
+  Found (findings.At lbn) = (find image id ≡ Passed) × (lbn .0 ≡ slot image (id .number))
+  Found (findings.Refused r) = find image id ≡ Refused r
+
+  pub found : (f : Finding) → f ≡ finding (find image id) (slot image (id .number)) → Found f
+  unfolding finding
+  found f e = subst Found (sym e) (go (find image id) refl)
+    where
+      go : (o : Outcome) → find image id ≡ o → Found (finding (find image id) (slot image (id .number)))
+      go Passed q = rw q (q, refl)
+      go (Refused r) q = rw q q
+
+  pub find-relvol : (id .volume ≡ 0 → ⊥) → find image id ≡ Refused refusal.Relvol
+  unfolding find unless _then_
+  find-relvol v = rw (ne-eqb (id .volume) 0 v)
+
+  module _ (v : id .volume ≡ 0) where
+    pub find-number : isNumber image (id .number) ≡ false → find image id ≡ Refused refusal.Number
+    unfolding find unless _then_
+    find-number n = rw (eq-eqb (id .volume) 0 v, n)
+
+    module _ (n : isNumber image (id .number) ≡ true) where
+      pub find-header : (faultOf image (id .number) ≡ 0 → ⊥) → find image id ≡ Refused (refusal.Header (faultOf image (id .number)))
+      unfolding find unless _then_
+      find-header w = rw (eq-eqb (id .volume) 0 v, n, ne-eqb (faultOf image (id .number)) 0 w)
+
+      module _ (w : faultOf image (id .number) ≡ 0) where
+        pub find-sequence : (hFseq (header image (id .number)) ≡ id .sequence → ⊥) → find image id ≡ Refused refusal.Sequence
+        unfolding find unless _then_
+        find-sequence q = rw (eq-eqb (id .volume) 0 v, n, eq-eqb (faultOf image (id .number)) 0 w, ne-eqb (hFseq (header image (id .number))) (id .sequence) q)
+
+        module _ (q : hFseq (header image (id .number)) ≡ id .sequence) where
+          pub find-segment : (segment (header image (id .number)) ≡ 0 → ⊥) → find image id ≡ Refused refusal.Segment
+          unfolding find unless _then_
+          find-segment s =
+              rw (eq-eqb (id .volume) 0 v, n, eq-eqb (faultOf image (id .number)) 0 w, eq-eqb (hFseq (header image (id .number))) (id .sequence) q, ne-eqb (segment (header image (id .number))) 0 s)
+
+          pub find-passed : segment (header image (id .number)) ≡ 0 → find image id ≡ Passed
+          unfolding find unless _then_
+          find-passed s =
+              rw (eq-eqb (id .volume) 0 v, n, eq-eqb (faultOf image (id .number)) 0 w, eq-eqb (hFseq (header image (id .number))) (id .sequence) q, eq-eqb (segment (header image (id .number))) 0 s)
+
+  -- The flags are those of the header that was found.
+  pub access-by : (h : List ℕ) → h ≡ header image (id .number) → unless (not (locked h)) refusal.Locked ≡ access image id
+  unfolding access
+  access-by h e = rw e
+
+  pub chained-bad : goodChain image (id .number) ≡ false → chained image id ≡ Refused refusal.Chain
+  unfolding chained unless
+  chained-bad g = rw g
+
+  pub chained-passed : goodChain image (id .number) ≡ true → chained image id ≡ Passed
+  unfolding chained unless
+  chained-passed g = rw g
+
+-- What a header that was found has.
+pub record Finds (image : List ℕ) (id : FileId) : Type 0 where
+  pub relvol : id .volume ≡ 0
+  pub first : IsFirst image (id .number)
+  pub sequence : hFseq (header image (id .number)) ≡ id .sequence
+
+-- What a file that opens has.
+pub record Opened (image : List ℕ) (id : FileId) : Type 0 where
+  pub volume : openVolume image ≡ Passed
+  pub found : Finds image id
+  pub unlocked : locked (header image (id .number)) ≡ false
+  pub chain : goodChain image (id .number) ≡ true
+
+module _ (image : List ℕ) (id : FileId) where
+  pub finds : find image id ≡ Passed → Finds image id
+  unfolding find
+  finds e =
+      let n = id .number in
+      let v = passed-first (eqb (id .volume) 0) refusal.Relvol _ e in
+      let u = passed-first (isNumber image n) refusal.Number _ (v .1) in
+      let w = passed-first (eqb (faultOf image n) 0) (refusal.Header (faultOf image n)) _ (u .1) in
+      let q = passed-first (eqb (hFseq (header image n)) (id .sequence)) refusal.Sequence _ (w .1) in
+      let s = passed-last (eqb (segment (header image n)) 0) refusal.Segment (q .1) in
+      record {
+        relvol = eqb-true (id .volume) 0 (v .0);
+        first = (u .0, eqb-true (faultOf image n) 0 (w .0), eqb-true (segment (header image n)) 0 s);
+        sequence = eqb-true (hFseq (header image n)) (id .sequence) (q .0);
+      }
+
+  pub opened : openFile image id ≡ Passed → Opened image id
+  unfolding openFile access chained
+  opened e =
+      let v = passed-then (openVolume image) _ e in
+      let f = passed-then (find image id) _ (v .1) in
+      let a = passed-first (not (locked (header image (id .number)))) refusal.Locked _ (f .1) in
+      record {
+        volume = v .0;
+        found = finds (f .0);
+        unlocked = not-true (locked (header image (id .number))) (a .0);
+        chain = passed-last (goodChain image (id .number)) refusal.Chain (a .1);
+      }

@@ -1,0 +1,72 @@
+-- Each part is asked where those before it are passed, and the header that was found is the one in the slot.
+use borrow.Author.Needs.{needs}
+use mathlib.Core.Path.{_≡_, sym, ap, _∙_}
+use denote.Ref.{now}
+use Rattle.image.specs.Blocks.{block}
+use Rattle.answer.specs.Outcome.{_then_}
+use Rattle.answer.proofs.OutcomeLaws.{then-passed, then-refused}
+use Rattle.volume.specs.Volume.{header}
+use Rattle.open_file.specs.declared.Finding.the-variants.{At}
+use Rattle.open_file.specs.Opening.{find, access, chained}
+use Rattle.open_file.proofs.OpeningLaws.{Found, found, access-by, tells-refused, finds}
+use Rattle.open_file.proofs.open_on.Statement.{statement}
+use Rattle.open_file.proofs.open_on.Tie as tie
+
+known : (c : tie.After-found) → let a = c .before .before .before .before .args in Found (now (a .image)) (a .id) (At (c .found .given .0 .0))
+known c =
+    let f = c .before .before in
+    let a = f .before .before .args in
+    found (now (a .image)) (a .id) _ (sym (c .found .given .1) ∙ f .find .ensures)
+
+asked : (c : tie.After-access) → let a = c .before .before .before .before .before .before .before .args in c .access .result ≡ access (now (a .image)) (a .id)
+unfolding header
+asked c =
+    let p = c .before .before .before in
+    let a = p .before .before .before .before .args in
+    c .access .ensures ∙ access-by (now (a .image)) (a .id) _ (c .before .block .ensures ∙ ap (block (now (a .image))) (known p .1))
+
+find-requires : tie.Need-find-requires
+find-requires c κs = c .before .pre
+
+open-chain-requires : tie.Need-open-chain-requires
+open-chain-requires c κs =
+    let p = c .before .before .before .before .before in
+    let start = p .before .before .before .before in
+    (start .pre, finds (now (start .args .image)) (start .args .id) (known p .0) .first, known p .1)
+
+returns : tie.Need-returns
+returns c =
+    let d = c .before in
+    let x = d .before .before in
+    let p = x .before .before .before in
+    let a = p .before .before .before .before .args in
+    let image = now (a .image) in
+    rw (then-passed (find image (a .id)) _ (known p .0), then-passed (access image (a .id)) (chained image (a .id)) (sym (asked x) ∙ d .enum-told .given .1))
+    (c .open-chain .ensures)
+
+returns-2 : tie.Need-returns-2
+returns-2 c =
+    let d = c .before .before in
+    let x = d .before .before in
+    let p = x .before .before .before in
+    let a = p .before .before .before .before .args in
+    let image = now (a .image) in
+    tells-refused image (a .id) _ _ _
+    (then-passed (find image (a .id)) _ (known p .0) ∙ then-refused (access image (a .id)) (chained image (a .id)) _ (sym (asked x) ∙ d .admitted .given .1))
+    (c .refused .ensures .0) (c .refused .ensures .1)
+
+returns-3 : tie.Need-returns-3
+returns-3 c =
+    let d = c .before .before in
+    let f = d .before .before in
+    let a = f .before .before .args in
+    let image = now (a .image) in
+    tells-refused image (a .id) _ _ _
+    (then-refused (find image (a .id)) (access image (a .id) then chained image (a .id)) _ (found image (a .id) _ (sym (d .found2 .given .1) ∙ f .find .ensures)))
+    (c .refused2 .ensures .0) (c .refused2 .ensures .1)
+
+pub open-on-spec : {M : Type 1} → statement M
+open-on-spec =
+    tie.close
+    (tie.spec find-requires (search needs) (search needs) (search needs) (search needs) open-chain-requires (search needs) (search needs)
+    (search needs) (search needs) returns returns-2 returns-3)

@@ -1,0 +1,83 @@
+-- Opening a file by its ID: RELVOL, NUMBER, HEADER, SEQUENCE, SEGMENT; LOCKED; CHAIN, in this order.
+use mathlib.Core.Path.{_≡_}
+use mathlib.Core.Bool.{Bool, not, _||_}
+use mathlib.Core.List.{List}
+use Prim.Native.Nat.{ℕ, _/_, _%_, _≤_}
+use lib.Dec.{eqb}
+use lib.ListN.{length}
+use Rattle.answer.specs.declared.types.FileId.{FileId}
+use Rattle.answer.specs.declared.refusal.Refusal.the-variants as refusal
+use Rattle.answer.specs.declared.outcome.Outcome.{Outcome}
+use Rattle.answer.specs.declared.outcome.Outcome.the-variants as outcome
+use Rattle.answer.specs.Outcome.{unless, _then_}
+use Rattle.header.specs.Fields.{hFseq, userFlags, systemFlags, segment}
+use Rattle.volume.specs.Volume.{slot, header, faultOf, isNumber, volumeOf, placesOf}
+use Rattle.volume.specs.Opening.{openVolume}
+use Rattle.chains.specs.Chains.{goodChain, fileBlocks}
+use Rattle.open_file.specs.declared.Finding.{Finding}
+use Rattle.open_file.specs.declared.Finding.the-variants as findings
+use Rattle.open_file.specs.declared.OpenFile.{OpenFile}
+use Rattle.open_file.specs.declared.OpenedFile.{OpenedFile}
+use Rattle.open_file.specs.declared.OpenedFile.the-variants.{Done, Refused}
+
+-- Finding the header. 01, Answer numbers: "6 RELVOL | third ID word not 0", "7 NUMBER | 0, above H.FMAX, no slot, not in use", "8 HEADER | not
+-- whole", "9 SEQUENCE | H.FSEQ differs", "10 SEGMENT | segment not 0". HEADER carries the first unmet test.
+unfoldable pub find : List ℕ → FileId → Outcome
+find image id =
+    unless (eqb (id .volume) 0) refusal.Relvol
+    then unless (isNumber image (id .number)) refusal.Number
+    then unless (eqb (faultOf image (id .number)) 0) (refusal.Header (faultOf image (id .number)))
+    then unless (eqb (hFseq (header image (id .number))) (id .sequence)) refusal.Sequence
+    then unless (eqb (segment (header image (id .number))) 0) refusal.Segment
+
+-- What finding a header comes to: the LBN that it lies at, or the refusal.
+unfoldable pub finding : Outcome → ℕ → Finding
+finding outcome.Passed lbn = findings.At (record { 0 = lbn })
+finding (outcome.Refused r) lbn = findings.Refused r
+
+-- A flag, given by its value (a power of 2), is set.
+unfoldable pub hasFlag : ℕ → ℕ → Bool
+hasFlag flags value = eqb (flags / value % 2) 1
+
+-- 01, The header: "User flag 64 (deaccess-locked) or system flag 128 (marked for delete) in the first header refuses access."
+unfoldable pub locked : List ℕ → Bool
+locked h = hasFlag (userFlags h) 64 || hasFlag (systemFlags h) 128
+
+-- 01, Answer numbers: "11 LOCKED | either flag".
+unfoldable pub access : List ℕ → FileId → Outcome
+access image id = unless (not (locked (header image (id .number)))) refusal.Locked
+
+-- 01, Answer numbers: "12 CHAIN | a bad link".
+unfoldable pub chained : List ℕ → FileId → Outcome
+chained image id = unless (goodChain image (id .number)) refusal.Chain
+
+-- 01, Answer numbers: "Order: 1 to 5; .. 6 to 12". Every call that opens a file opens it so.
+unfoldable pub openFile : List ℕ → FileId → Outcome
+openFile image id = openVolume image then find image id then access image id then chained image id
+
+-- What the calls that go on from an opened file are told: the outcome, and where that is passed the volume, how many blocks the file has and the
+-- LBN of its first header. There are never more blocks than 256 headers with 127 pointers of 256 blocks can cover: 8,323,072.
+abbrev pub Tells : List ℕ → FileId → Outcome → OpenFile → Type 0
+Tells image id result file =
+    (file .outcome ≡ result)
+    × (result ≡ outcome.Passed
+    → (file .volume ≡ volumeOf image) × (file .blocks ≡ length (fileBlocks image (id .number))) × (file .header .0 ≡ slot image (id .number)))
+    × (file .blocks ≤ 8323072)
+
+-- The same, with the places of the volume record.
+abbrev pub TellsPlaces : List ℕ → FileId → Outcome → OpenFile → List ℕ → Type 0
+TellsPlaces image id result file at =
+    (file .outcome ≡ result)
+    × (result ≡ outcome.Passed
+    → (file .volume ≡ volumeOf image) × (file .blocks ≡ length (fileBlocks image (id .number))) × (file .header .0 ≡ slot image (id .number)))
+    × (file .blocks ≤ 8323072)
+    × (result ≡ outcome.Passed → at ≡ placesOf image)
+
+-- 01, Answer numbers: DONE has as value the "block count (open file)".
+unfoldable pub openedFile : Outcome → ℕ → OpenedFile
+openedFile outcome.Passed count = Done count
+openedFile (outcome.Refused r) count = Refused r
+
+-- The answer of opening a file.
+unfoldable pub openAnswer : List ℕ → FileId → OpenedFile
+openAnswer image id = openedFile (openFile image id) (length (fileBlocks image (id .number)))

@@ -1,0 +1,191 @@
+// Opening a file by its ID.
+use answer::outcome::Outcome;
+use answer::refusal::Refusal;
+use answer::types::FileId;
+use answer::types::FileNumber;
+use answer::types::Lbn;
+use chains::Chain;
+use chains::chain_blocks;
+use chains::slot_in_use;
+use header::fields::h_fseq;
+use header::fields::segment;
+use header::fields::system_flags;
+use header::fields::user_flags;
+use image::blocks::block;
+use volume::Places;
+use volume::Slot;
+use volume::Volume;
+use whole::fault;
+ghost use mathlib.Core.Path.{_≡_};
+ghost use mathlib.Core.Bool.{not};
+ghost use Rattle.image.specs.Stores.{zeros};
+ghost use Rattle.answer.specs.declared.refusal.Refusal.the-variants as refusal;
+ghost use Rattle.answer.specs.declared.outcome.Outcome.the-variants as outcome;
+ghost use Rattle.answer.specs.Outcome.{unless, _then_};
+ghost use Rattle.volume.specs.Volume.{slot};
+ghost use Rattle.volume.specs.Opening.{Recorded};
+ghost use Rattle.chains.specs.Chains.{IsFirst};
+ghost use Rattle.open_file.specs.Opening.{find, finding, locked, access, chained, openFile, Tells, TellsPlaces, openAnswer};
+
+// The answer of opening a file.
+pub enum OpenedFile {
+    // How many blocks it has.
+    Done(u32),
+    Refused(Refusal),
+}
+
+// What opening a file comes to, for the calls that go on from there.
+pub struct OpenFile {
+    pub outcome: Outcome,
+    // The volume; it says nothing where the outcome is a refusal.
+    pub volume: Volume,
+    // The LBN of its first header.
+    pub header: Lbn,
+    // How many blocks the file has.
+    pub blocks: u32,
+}
+
+// What finding a header comes to.
+pub enum Finding {
+    // It lies at this LBN.
+    At(Lbn),
+    Refused(Refusal),
+}
+
+// Finding the header: RELVOL, NUMBER, HEADER, SEQUENCE, SEGMENT.
+fn find(image: &[u8], v: Volume, places: &Places, id: FileId) -> Finding
+    requires { ⌜ Recorded (now image) v (now places) ⌝ }
+    ensures { λ r. ⌜ r ≡ finding (find (now (image .entry)) id) (slot (now (image .entry)) (id .number)) ⌝ }
+{
+    if id.volume != 0 {
+        return Finding::Refused(Refusal::Relvol);
+    }
+    let n = id.number as u32;
+    let place = slot_in_use(image, v, places, FileNumber(n));
+    match place {
+        Slot::At(lbn) => {
+            let h = block(image, lbn.0);
+            let unmet = fault(h, v.blocks, n);
+            if unmet != 0 {
+                return Finding::Refused(Refusal::Header(unmet));
+            }
+            if h_fseq(h) != id.sequence {
+                return Finding::Refused(Refusal::Sequence);
+            }
+            if segment(h) != 0 {
+                return Finding::Refused(Refusal::Segment);
+            }
+            Finding::At(lbn)
+        }
+        Slot::Missing => Finding::Refused(Refusal::Number),
+    }
+}
+
+// Whether a flag of the first header refuses access.
+fn is_locked(h: &[u8]) -> bool
+    ensures { λ r. ⌜ r ≡ locked (now (h .entry)) ⌝ }
+{
+    if user_flags(h) / 64 % 2 == 1 {
+        return true;
+    }
+    if system_flags(h) / 128 % 2 == 1 {
+        return true;
+    }
+    false
+}
+
+// Access to a file whose header was found: LOCKED.
+fn access(h: &[u8]) -> Outcome
+    ensures { λ r. ⌜ r ≡ unless (not (locked (now (h .entry)))) refusal.Locked ⌝ }
+{
+    if is_locked(h) {
+        Outcome::Refused(Refusal::Locked)
+    } else {
+        Outcome::Passed
+    }
+}
+
+// A refusal.
+fn refused(v: Volume, r: Refusal) -> OpenFile
+    ensures { λ o. ⌜ (o .outcome ≡ outcome.Refused r) × (o .blocks ≡ 0) ⌝ }
+{
+    OpenFile {
+        outcome: Outcome::Refused(r),
+        volume: v,
+        header: Lbn(0),
+        blocks: 0,
+    }
+}
+
+// The chain of a file to which there is access: CHAIN.
+fn open_chain(image: &[u8], v: Volume, places: &Places, id: FileId, lbn: Lbn) -> OpenFile
+    requires { ⌜ Recorded (now image) v (now places) × IsFirst (now image) (id .number) × (lbn .0 ≡ slot (now image) (id .number)) ⌝ }
+    ensures { λ r. ⌜ Tells (now (image .entry)) id (chained (now (image .entry)) id) r ⌝ }
+{
+    let found = chain_blocks(image, v, places, FileNumber(id.number as u32), lbn);
+    match found {
+        Chain::Good(blocks) => OpenFile {
+            outcome: Outcome::Passed,
+            volume: v,
+            header: lbn,
+            blocks,
+        },
+        Chain::Bad => refused(v, Refusal::Chain),
+    }
+}
+
+// Opens a file on an opened volume.
+pub fn open_on(image: &[u8], v: Volume, places: &Places, id: FileId) -> OpenFile
+    requires { ⌜ Recorded (now image) v (now places) ⌝ }
+    ensures { λ r. ⌜ Tells (now (image .entry)) id (find (now (image .entry)) id then access (now (image .entry)) id then chained (now (image .entry)) id) r ⌝ }
+{
+    let found = find(image, v, places, id);
+    match found {
+        Finding::At(lbn) => {
+            let admitted = access(block(image, lbn.0));
+            match admitted {
+                Outcome::Passed => open_chain(image, v, places, id, lbn),
+                Outcome::Refused(r) => refused(v, r),
+            }
+        }
+        Finding::Refused(r) => refused(v, r),
+    }
+}
+
+// Opens a file. The volume record that is handed on is what opening the volume gave, and not the copy that came back with the file; its places are left
+// in the array lent for them.
+pub fn open(image: &[u8], places: &mut Places, id: FileId) -> OpenFile
+    requires { ⌜ now places ≡ zeros 256 ⌝ }
+    ensures { λ r. ⌜ TellsPlaces (now (image .entry)) id (openFile (now (image .entry)) id) r (now (places .exit)) ⌝ }
+{
+    let opened = open_volume::open(image, places);
+    let v = opened.volume;
+    let result = opened.outcome;
+    match result {
+        Outcome::Passed => {
+            let file = open_on(image, v, places, id);
+            let outcome = file.outcome;
+            let header = file.header;
+            OpenFile {
+                outcome,
+                volume: v,
+                header,
+                blocks: file.blocks,
+            }
+        }
+        Outcome::Refused(r) => refused(v, r),
+    }
+}
+
+// The answer of opening a file.
+pub fn open_file(image: &[u8], id: FileId) -> OpenedFile
+    ensures { λ r. ⌜ r ≡ openAnswer (now (image .entry)) id ⌝ }
+{
+    let mut places = [0u32; 256];
+    let o = open(image, &mut places, id);
+    let result = o.outcome;
+    match result {
+        Outcome::Passed => OpenedFile::Done(o.blocks),
+        Outcome::Refused(r) => OpenedFile::Refused(r),
+    }
+}
