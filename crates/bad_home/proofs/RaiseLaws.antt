@@ -7,14 +7,13 @@ use native.Mathlib.Omega.{arith}
 use borrow.Author.Tests.{le-leb}
 use lib.ListN.{length, take}
 use lib.Seq.{take-length}
-use Rattle.image.specs.Words.{Bytes}
 use Rattle.answer.specs.declared.outcome.Outcome.the-variants.{Passed}
 use Rattle.header.specs.Fields.{mEfnu}
 use Rattle.pointers.specs.Pointers.{blocksOf}
 use Rattle.home.specs.Home.{blocks}
 use Rattle.volume.specs.Volume.{slots, hasSlot, header, inUse, isNumber}
 use Rattle.volume.specs.Opening.{openVolume}
-use Rattle.chains.specs.Chains.{goodLink, IsFirst, fileBlocks}
+use Rattle.chains.specs.Chains.{NextHeader, IsFirst, fileBlocks}
 use Rattle.chains.proofs.ChainLaws.{Walk, walk-start, walk-take, walk-end-length, walk-next}
 use Rattle.marks.specs.Marks.{raisedBy}
 use Rattle.marks.proofs.MarkLaws.{raisedBy-none, raisedBy-append, raisedBy-length}
@@ -41,11 +40,10 @@ module _ (image area₀ area h : List ℕ) (r : Raised image area₀ area h) whe
       ∙ sym (raisedBy-append area₀ (take (r .past) (fileBlocks image 3)) (blocksOf h))
       ∙ ap (raisedBy area₀) (sym (walk-take image 3 h (r .past) (r .walk)))
 
-  pub raised-next : Bytes image → (mEfnu h ≡ 0 → ⊥) → goodLink image h ≡ true
-      → (new next : List ℕ) → new ≡ raisedBy area (blocksOf h) → next ≡ header image (mEfnu h) → Raised image area₀ new next
-  raised-next bytes ne g new next e f = record {
+  pub raised-next : (new next : List ℕ) → new ≡ raisedBy area (blocksOf h) → NextHeader image h next → Raised image area₀ new next
+  raised-next new next e f = record {
     past = r .past + length (blocksOf h);
-    walk = rw f (walk-next image 3 h (r .past) (r .walk) bytes ne g);
+    walk = walk-next image 3 h (r .past) (r .walk) next f;
     marks = e ∙ with-own;
   }
 

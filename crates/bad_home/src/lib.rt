@@ -2,12 +2,11 @@
 use answer::outcome::Outcome;
 use answer::refusal::Refusal;
 use answer::types::FileNumber;
-use chains::Link;
-use chains::follow;
 use chains::header_of;
+use chains::next_header;
 use covers::raise_header;
+use header::fields::m_efnu;
 use home::position;
-use image::blocks::block;
 use marks::lower_first;
 use volume::Places;
 use volume::Volume;
@@ -33,18 +32,11 @@ fn raise_chain(image: &[u8], v: Volume, places: &Places, area: &mut [u8])
     let mut h = header_of(image, v, places, FileNumber(3));
     loop {
         raise_header(h, area);
-        let link = follow(image, v, places, h);
-        match link {
-            Link::End => {
-                return;
-            }
-            Link::To(next) => {
-                h = block(image, next.0);
-            }
-            Link::Bad => {
-                return;
-            }
+        if m_efnu(h) == 0 {
+            return;
         }
+        let next = next_header(image, v, places, h);
+        h = next;
     }
 }
 

@@ -9,15 +9,14 @@ use borrow.Author.Tests.{eq-eqb, ne-eqb}
 use lib.Dec.{eqb}
 use lib.ListN.{length, getD, take, length-append, List·getD-append}
 use lib.Seq.{getD-append-add, take-append-seam, take-append-add}
-use Rattle.image.specs.Words.{Bytes}
 use Rattle.header.specs.Fields.{segment, mEfnu}
 use Rattle.pointers.specs.Pointers.{blocksOf}
 use Rattle.volume.specs.Volume.{header, faultOf, isNumber}
-use Rattle.chains.specs.Chains.{goodLink, chain, chainOf, linkOf, goodChain, flat, IsFirst, fileBlocks, chainBlocks}
+use Rattle.chains.specs.Chains.{goodLink, NextHeader, chain, chainOf, linkOf, goodChain, IsFirst, fileBlocks, chainBlocks}
+use Rattle.pointers.specs.Pointers.{flat}
 use Rattle.lists.specs.Lists.{every}
 use Rattle.chains.specs.declared.Chain.{Chain}
 use Rattle.chains.specs.declared.Chain.the-variants.{Good, Bad}
-use Rattle.chains.proofs.NumberLaws.{segment-most}
 use Rattle.chains.proofs.LinkLaws.{link-end, good-links}
 
 module _ (hdr : ℕ → List ℕ) where
@@ -158,26 +157,26 @@ module _ (image : List ℕ) (n : ℕ) (h : List ℕ) (d : ℕ) (w : Walk image n
   walk-more l e = omega (arith, walk-end-length e)
 
   -- With a good one the walk comes to the header that it names.
-  pub walk-next : Bytes image → (mEfnu h ≡ 0 → ⊥) → goodLink image h ≡ true → Walk image n (header image (mEfnu h)) (d + length (blocksOf h))
-  walk-next bytes ne g =
-      let l = good-links image h ne g in
-      let ne′ : mEfnu (header image (w .number)) ≡ 0 → ⊥ = λ z. ne (sym (ap mEfnu (w .is)) ∙ z) in
-      let f : 255 - segment h ≡ 256 - segment (header image (mEfnu h)) = omega (arith, l .next) in
+  pub walk-next : (next : List ℕ) → NextHeader image h next → Walk image n next (d + length (blocksOf h))
+  walk-next next r =
+      let l = good-links image h (r .some) (r .good) in
+      let ne′ : mEfnu (header image (w .number)) ≡ 0 → ⊥ = λ z. r .some (sym (ap mEfnu (w .is)) ∙ z) in
+      let f : 255 - segment h ≡ 256 - segment next = omega (arith, r .higher) in
       record {
         number = mEfnu h;
-        is = refl;
+        is = sym (r .is);
         used = l .number;
         whole = l .whole;
-        low = segment-most image (mEfnu h) bytes;
+        low = r .low;
         links =
             left-links ∙ every-more (header image) (linkOf image) (255 - segment h) (w .number) ne′
-            ∙ rw (link-here, g, w .is, f);
+            ∙ rw (link-here, r .good, w .is, f);
         past = w .past ++ blocksOf h;
         count = length-append (w .past) (blocksOf h) ∙ ap (λ (k : ℕ). k + length (blocksOf h)) (w .count);
         blocks =
             left-blocks
             ∙ ap (λ (r : List ℕ). w .past ++ r) (flat-more (header image) (255 - segment h) (w .number) ne′ ∙ rw (w .is, f))
-            ∙ sym (append-assoc (w .past) (blocksOf h) (flat (header image) (chain (header image) (256 - segment (header image (mEfnu h))) (mEfnu h))));
+            ∙ sym (append-assoc (w .past) (blocksOf h) (flat (header image) (chain (header image) (256 - segment next) (mEfnu h))));
       }
 
 -- What the walk over a whole chain comes to.

@@ -13,10 +13,11 @@ use Rattle.header.specs.Fields.{hFseq, segment, mEfnu, mEfsq}
 use Rattle.pointers.specs.Pointers.{blocksOf}
 use Rattle.whole.specs.Whole.{fault}
 use Rattle.home.specs.Home.{blocks}
-use Rattle.volume.specs.Volume.{ibsz, iblb, inUse, partSlot, partSlots, leadsOn, placesFrom, places, mappedBy, index, indexEnds, slot, slots, hasSlot, header, faultOf, isNumber}
+use Rattle.volume.specs.Volume.{ibsz, iblb, inUse, partSlot, partSlots, follows, leadsOn, placesFrom, places, index, indexEnds, slot, slots, hasSlot, header, faultOf, isNumber}
+use Rattle.pointers.specs.Pointers.{flat}
 use Rattle.volume.proofs.IndexLaws.{mapped-none, mapped-more, from-first, from-end, from-more, from-none, Leads, leads, used-low}
 use Rattle.volume.proofs.VolumeLaws.{Opens, slot-first}
-use Rattle.chains.specs.Chains.{linksOn, goodLink, chain, chainOf, linkOf, goodChain, flat, fileBlocks}
+use Rattle.chains.specs.Chains.{linksOn, goodLink, chain, chainOf, linkOf, goodChain, fileBlocks}
 use Rattle.lists.specs.Lists.{every}
 use Rattle.chains.proofs.LinkLaws.{link-end, link-more}
 use Rattle.chains.proofs.ChainLaws.{chain-end, chain-more, flat-end, flat-more, every-end, every-more}
@@ -33,7 +34,7 @@ module _ (image : List ℕ) where
 
   -- A walk along the chain of file 1 and one along the places, from the header of number n, which lies at an LBN, on.
   pub record Same (f n : ℕ) (ls : List ℕ) : Type 0 where
-    pub blocks : flat (header image) (chain (header image) f n) ≡ mappedBy image ls
+    pub blocks : flat (header image) (chain (header image) f n) ≡ flat (block image) ls
     pub good : every (linkOf image) (chain (header image) f n) ≡ true
     pub long : length (chain (header image) f n) ≡ length ls
     pub slots : (j : ℕ) → j < length ls → slot image (getD (chain (header image) f n) j 0) ≡ getD ls j 0
@@ -59,7 +60,7 @@ module _ (image : List ℕ) where
     part-has = omega (arith, l .has, ap length whole, length-append part rest)
 
     pub part-links : goodLink image h ≡ true
-    unfolding linksOn isNumber hasSlot faultOf
+    unfolding linksOn follows isNumber hasSlot
     part-links =
         link-more image h (λ z. omega (arith, low))
         ∙ rw (l .used, le-leb (mEfnu h) (slots image) part-has, part-header, l .whole, eq-eqb (hFseq (block image (partSlot (ibsz image) part (mEfnu h)))) (mEfsq h) (l .sequence))
@@ -96,7 +97,7 @@ module _ (image : List ℕ) where
 
   abbrev Claim : ℕ → Type 0
   Claim f =
-      (part : List ℕ) (at n : ℕ) → index image ≡ part ++ mappedBy image (placesFrom image f part at) → slot image n ≡ at
+      (part : List ℕ) (at n : ℕ) → index image ≡ part ++ flat (block image) (placesFrom image f part at) → slot image n ≡ at
       → 1 ≤ length (placesFrom image f part at) → Ends (placesFrom image f part at) → Same f n (placesFrom image f part at)
 
   module _ (f : ℕ) (on : Claim f) (part : List ℕ) (at n : ℕ) (here : slot image n ≡ at) where
@@ -109,9 +110,9 @@ module _ (image : List ℕ) where
     abbrev rest : List ℕ
     rest = placesFrom image f more (partSlot (ibsz image) more (mEfnu h))
 
-    module _ (whole : index image ≡ part ++ mappedBy image (placesFrom image (f + 1) part at)) (e : leadsOn image more h ≡ true) where
-      all : index image ≡ more ++ mappedBy image rest
-      all = whole ∙ rw (from-more image f part at e, mapped-more image at rest) (sym (append-assoc part (blocksOf h) (mappedBy image rest)))
+    module _ (whole : index image ≡ part ++ flat (block image) (placesFrom image (f + 1) part at)) (e : leadsOn image more h ≡ true) where
+      all : index image ≡ more ++ flat (block image) rest
+      all = whole ∙ rw (from-more image f part at e, mapped-more image at rest) (sym (append-assoc part (blocksOf h) (flat (block image) rest)))
 
       some-link : mEfnu h ≡ 0 → ⊥
       some-link z = omega (arith, used-low image (mEfnu h) (leads image more h e .used))
@@ -119,10 +120,10 @@ module _ (image : List ℕ) where
       tail : (ls : List ℕ) → rest ≡ ls → Ends (at ∷ ls) → Same (f + 1) n (at ∷ ls)
       tail [] q z = absurd (some-link z)
       tail (x ∷ ls) q z =
-          same-on f n at (x ∷ ls) here some-link (part-links more (mappedBy image rest) h all e)
-          (rw q at (on more (partSlot (ibsz image) more (mEfnu h)) (mEfnu h) all (part-slot more (mappedBy image rest) h all e) (rw q (omega arith)) (rw q (ends-more at x ls z))))
+          same-on f n at (x ∷ ls) here some-link (part-links more (flat (block image) rest) h all e)
+          (rw q at (on more (partSlot (ibsz image) more (mEfnu h)) (mEfnu h) all (part-slot more (flat (block image) rest) h all e) (rw q (omega arith)) (rw q (ends-more at x ls z))))
 
-    claim-on : index image ≡ part ++ mappedBy image (placesFrom image (f + 1) part at) → Ends (placesFrom image (f + 1) part at) → Same (f + 1) n (placesFrom image (f + 1) part at)
+    claim-on : index image ≡ part ++ flat (block image) (placesFrom image (f + 1) part at) → Ends (placesFrom image (f + 1) part at) → Same (f + 1) n (placesFrom image (f + 1) part at)
     claim-on whole ends = go (leadsOn image more h) refl
       where
         go : (t : Bool) → leadsOn image more h ≡ t → Same (f + 1) n (placesFrom image (f + 1) part at)

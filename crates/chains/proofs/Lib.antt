@@ -4,3 +4,4 @@ pub mod IndexFile
 pub mod LinkLaws
 pub mod NumberLaws
 pub mod SizeLaws
+pub mod FindingLaws

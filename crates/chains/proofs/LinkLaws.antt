@@ -1,21 +1,24 @@
 -- Laws of links: what a good link says, and where the link of a header leads.
-use mathlib.Core.Path.{_≡_, refl, sym, subst, _∙_}
+use mathlib.Core.Path.{_≡_, refl, sym, ap, subst, _∙_}
 use mathlib.Core.Bool.{Bool, true, false, _&&_, and-eq-true-iff}
 use mathlib.Core.List.{List}
 use Prim.Native.Nat.{ℕ, _+_}
 use native.Mathlib.Decide.{ℕ-discrete}
 use borrow.Author.Tests.{eq-eqb, ne-eqb, eqb-true}
 use lib.Dec.{eqb}
+use Rattle.image.specs.Words.{Bytes}
 use Rattle.image.specs.Blocks.{block}
 use Rattle.answer.specs.declared.types.Lbn.{Lbn}
 use Rattle.header.specs.Fields.{hFseq, segment, mEfnu, mEfsq}
+use Rattle.whole.specs.Whole.{fault}
 use Rattle.volume.specs.declared.Slot.{Slot}
 use Rattle.volume.specs.declared.Slot.the-variants.{At, Missing}
 use Rattle.home.specs.Home.{blocks}
 use Rattle.volume.specs.Volume.{follows, slot, header, faultOf, isNumber}
 use Rattle.chains.specs.declared.Link.{Link}
 use Rattle.chains.specs.declared.Link.the-variants.{End, To, Bad}
-use Rattle.chains.specs.Chains.{slotInUse, linksOn, goodLink, linkFrom}
+use Rattle.chains.specs.Chains.{slotInUse, linksOn, goodLink, linkFrom, NextHeader}
+use Rattle.chains.proofs.NumberLaws.{segment-most}
 
 -- What M.EFNU of header h names, where it names what it should.
 pub record Linked (image h : List ℕ) : Type 0 where
@@ -26,21 +29,21 @@ pub record Linked (image h : List ℕ) : Type 0 where
 
 module _ (image h : List ℕ) where
   pub links-on : linksOn image h ≡ true → Linked image h
-  unfolding linksOn
+  unfolding linksOn follows faultOf
   links-on t =
       let n = mEfnu h in
-      let a = isNumber image n in
-      let b = eqb (faultOf image n) 0 in
-      let c = eqb (hFseq (header image n)) (mEfsq h) in
-      let d = eqb (segment (header image n)) (segment h + 1) in
-      let abc = and-eq-true-iff (a && b && c) d .0 t in
-      let ab = and-eq-true-iff (a && b) c .0 (abc .0) in
-      let l = and-eq-true-iff a b .0 (ab .0) in
+      let next = header image n in
+      let b = eqb (fault (blocks image) n next) 0 in
+      let c = eqb (hFseq next) (mEfsq h) in
+      let d = eqb (segment next) (segment h + 1) in
+      let all = and-eq-true-iff (isNumber image n) (b && c && d) .0 t in
+      let bcd = and-eq-true-iff (b && c) d .0 (all .1) in
+      let bc = and-eq-true-iff b c .0 (bcd .0) in
       record {
-        number = l .0;
-        whole = eqb-true (faultOf image n) 0 (l .1);
-        sequence = eqb-true (hFseq (header image n)) (mEfsq h) (ab .1);
-        next = eqb-true (segment (header image n)) (segment h + 1) (abc .1);
+        number = all .0;
+        whole = eqb-true (fault (blocks image) n next) 0 (bc .0);
+        sequence = eqb-true (hFseq next) (mEfsq h) (bc .1);
+        next = eqb-true (segment next) (segment h + 1) (bcd .1);
       }
 
   pub link-end : mEfnu h ≡ 0 → goodLink image h ≡ true
@@ -57,7 +60,7 @@ module _ (image h : List ℕ) where
   -- The tests of the header that M.EFNU names, where that is a number in use with a slot.
   pub links-number : isNumber image (mEfnu h) ≡ true
       → linksOn image h ≡ follows (blocks image) h (header image (mEfnu h))
-  unfolding linksOn follows faultOf
+  unfolding linksOn
   links-number e = rw e
 
   pub links-none : isNumber image (mEfnu h) ≡ false → linksOn image h ≡ false
@@ -110,3 +113,13 @@ link-leads image h l e = subst (Leads image h) e (go (ℕ-discrete (mEfnu h) 0) 
     go (no ne) true q =
         rw (link-is-to image h ne q (record { 0 = slot image (mEfnu h) }) refl) (record { some = ne; good = link-more image h ne ∙ q; next = refl })
     go (no ne) false q = rw (link-is-bad image h ne q) (link-more image h ne ∙ q)
+
+-- The header that a good link leads to.
+pub leads-next : (image h : List ℕ) (lbn : ℕ) → Bytes image → LeadsTo image h lbn → NextHeader image h (block image lbn)
+leads-next image h lbn bytes l = record {
+  some = l .some;
+  good = l .good;
+  is = l .next;
+  higher = ap segment (l .next) ∙ good-links image h (l .some) (l .good) .next;
+  low = rw (l .next) (segment-most image (mEfnu h) bytes);
+}

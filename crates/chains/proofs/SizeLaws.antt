@@ -17,7 +17,8 @@ use Rattle.whole.proofs.WholeLaws.{whole-inside}
 use Rattle.home.specs.Home.{blocks}
 use Rattle.volume.specs.Volume.{slot, header, faultOf}
 use Rattle.volume.proofs.IndexLaws.{blocksOf-most}
-use Rattle.chains.specs.Chains.{chain, chainOf, linkOf, goodChain, flat, IsFirst, fileBlocks}
+use Rattle.chains.specs.Chains.{chain, chainOf, linkOf, goodChain, IsFirst, fileBlocks}
+use Rattle.pointers.specs.Pointers.{flat}
 use Rattle.lists.specs.Lists.{every}
 use Rattle.chains.proofs.LinkLaws.{good-links}
 use Rattle.chains.proofs.ChainLaws.{flat-end, flat-more, every-more}

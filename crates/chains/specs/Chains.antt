@@ -1,16 +1,17 @@
 -- The chain of a file's headers, and the file's blocks.
 use mathlib.Core.Path.{_≡_}
 use mathlib.Core.Bool.{Bool, true, cond, _&&_, _||_}
-use mathlib.Core.List.{List, [], _∷_, _++_}
-use Prim.Native.Nat.{ℕ, zero, suc, _+_}
+use mathlib.Core.List.{List, [], _∷_}
+use Prim.Native.Nat.{ℕ, zero, suc, _+_, _≤_}
 use lib.Dec.{eqb}
 use lib.ListN.{length}
 use Rattle.lists.specs.Lists.{every, lastOf}
-use Rattle.header.specs.Fields.{hFseq, segment, mEfnu, mEfsq}
-use Rattle.pointers.specs.Pointers.{blocksOf}
+use Rattle.header.specs.Fields.{segment, mEfnu}
+use Rattle.pointers.specs.Pointers.{flat}
+use Rattle.home.specs.Home.{blocks}
 use Rattle.volume.specs.declared.Slot.{Slot}
 use Rattle.volume.specs.declared.Slot.the-variants as slots
-use Rattle.volume.specs.Volume.{slot, header, faultOf, isNumber}
+use Rattle.volume.specs.Volume.{follows, slot, header, faultOf, isNumber}
 use Rattle.chains.specs.declared.Link.{Link}
 use Rattle.chains.specs.declared.Link.the-variants as links
 use Rattle.chains.specs.declared.Chain.{Chain}
@@ -22,11 +23,7 @@ slotInUse image n = cond (isNumber image n) (slots.At (record { 0 = slot image n
 
 -- 01, The header: "names a number in use with a slot, whole, with H.FSEQ = M.EFSQ and a segment number one higher". Header h does so by M.EFNU.
 unfoldable pub linksOn : List ℕ → List ℕ → Bool
-linksOn image h =
-    isNumber image (mEfnu h)
-    && eqb (faultOf image (mEfnu h)) 0
-    && eqb (hFseq (header image (mEfnu h))) (mEfsq h)
-    && eqb (segment (header image (mEfnu h))) (segment h + 1)
+linksOn image h = isNumber image (mEfnu h) && follows (blocks image) h (header image (mEfnu h))
 
 -- 01, The header: "Good link from a header: M.EFNU is 0, or names a number in use ..".
 unfoldable pub goodLink : List ℕ → List ℕ → Bool
@@ -35,6 +32,14 @@ goodLink image h = eqb (mEfnu h) 0 || linksOn image h
 -- 01, The header: "M.EFNU is 0, or names ..". Where the link of header h leads: nowhere, to the header in the slot of M.EFNU, or it is bad.
 unfoldable pub linkFrom : List ℕ → List ℕ → Link
 linkFrom image h = cond (eqb (mEfnu h) 0) links.End (cond (linksOn image h) (links.To (record { 0 = slot image (mEfnu h) })) links.Bad)
+
+-- The link of header h is good, and header next is the one that it leads to. 01, The header: "a segment number one higher".
+pub record NextHeader (image h next : List ℕ) : Type 0 where
+  pub some : mEfnu h ≡ 0 → ⊥
+  pub good : goodLink image h ≡ true
+  pub is : next ≡ header image (mEfnu h)
+  pub higher : segment next ≡ segment h + 1
+  pub low : segment next ≤ 255
 
 -- The numbers of the headers that are linked by M.EFNU from that of number n on, at most f of them. hdr gives the header of a number.
 unfoldable pub chain : (ℕ → List ℕ) → ℕ → ℕ → List ℕ
@@ -53,11 +58,6 @@ linkOf image n = goodLink image (header image n)
 
 unfoldable pub goodChain : List ℕ → ℕ → Bool
 goodChain image n = every (linkOf image) (chainOf image n)
-
--- The LBNs of headers one after the other.
-unfoldable pub flat : (ℕ → List ℕ) → List ℕ → List ℕ
-flat hdr [] = []
-flat hdr (n ∷ ns) = blocksOf (hdr n) ++ flat hdr ns
 
 -- What finding a file's header asks of its number n. 01, Answer numbers, 7, 8 and 10: in use with a slot, whole, segment 0.
 abbrev pub IsFirst : List ℕ → ℕ → Type 0

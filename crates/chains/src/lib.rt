@@ -1,4 +1,5 @@
 // The chain of a file's headers: its links, its blocks, and its members.
+use answer::refusal::Refusal;
 use answer::types::FileNumber;
 use answer::types::Lbn;
 use header::fields::m_efnu;
@@ -12,13 +13,16 @@ use volume::is_in_use;
 use volume::is_next;
 use volume::slot_at;
 use volume::slot_of;
+use whole::fault;
 ghost use mathlib.Core.Path.{_≡_};
 ghost use mathlib.Core.Bool.{true};
 ghost use Prim.Native.Nat.{_<_};
 ghost use lib.ListN.{length, getD};
+ghost use Rattle.header.specs.Fields.{mEfnu};
 ghost use Rattle.volume.specs.Volume.{slot, header, isNumber};
 ghost use Rattle.volume.specs.Opening.{Recorded};
-ghost use Rattle.chains.specs.Chains.{goodChain, IsFirst, slotInUse, linkFrom, fileBlocks, chainBlocks};
+ghost use Rattle.chains.specs.Chains.{slotInUse, goodLink, linkFrom, NextHeader, goodChain, IsFirst, fileBlocks, chainBlocks};
+ghost use Rattle.chains.specs.Finding.{findNumber, finding};
 ghost use Rattle.chains.specs.Members.{Lists};
 
 // The numbers of a chain's headers and the LBNs of their slots, in the chain's order; what lies past the count says nothing.
@@ -56,6 +60,13 @@ pub fn members_of(image: &[u8], v: Volume, places: &Places, n: FileNumber, lbn: 
     }
 }
 
+// What finding a header comes to.
+pub enum Finding {
+    // It lies at this LBN.
+    At(Lbn),
+    Refused(Refusal),
+}
+
 // Where the link of a header leads.
 pub enum Link {
     // Nowhere: the header is the last of its chain.
@@ -82,6 +93,24 @@ pub fn slot_in_use(image: &[u8], v: Volume, places: &Places, n: FileNumber) -> S
         slot_of(image, v, places, n)
     } else {
         Slot::Missing
+    }
+}
+
+// Finding the header of a number on an opened volume: NUMBER, HEADER.
+pub fn find_number(image: &[u8], v: Volume, places: &Places, n: FileNumber) -> Finding
+    requires { ⌜ Recorded (now image) v (now places) ⌝ }
+    ensures { λ r. ⌜ r ≡ finding (findNumber (now (image .entry)) (n .0)) (slot (now (image .entry)) (n .0)) ⌝ }
+{
+    let place = slot_in_use(image, v, places, n);
+    match place {
+        Slot::At(lbn) => {
+            let unmet = fault(block(image, lbn.0), v.blocks, n.0);
+            if unmet != 0 {
+                return Finding::Refused(Refusal::Header(unmet));
+            }
+            Finding::At(lbn)
+        }
+        Slot::Missing => Finding::Refused(Refusal::Number),
     }
 }
 
@@ -114,6 +143,14 @@ pub fn header_of<'a>(image: &'a [u8], v: Volume, places: &Places, n: FileNumber)
     ensures { λ r. ⌜ now r ≡ header (now (image .entry)) (n .0) ⌝ }
 {
     block(image, slot_at(image, v, places, n).0)
+}
+
+// The header that header h links to, where it links to one and its link is good.
+pub fn next_header<'a>(image: &'a [u8], v: Volume, places: &Places, h: &[u8]) -> &'a [u8]
+    requires { ⌜ Recorded (now image) v (now places) × (mEfnu (now h) ≡ 0 → ⊥) × (goodLink (now image) (now h) ≡ true) ⌝ }
+    ensures { λ r. ⌜ NextHeader (now (image .entry)) (now (h .entry)) (now r) ⌝ }
+{
+    header_of(image, v, places, FileNumber(m_efnu(h) as u32))
 }
 
 // What the chain of the file whose first header has number n and lies at this LBN comes to, by one walk over its headers. Most headers have no link,
@@ -158,6 +195,7 @@ pub fn lbn_at(image: &[u8], v: Volume, places: &Places, n: FileNumber, lbn: Lbn,
             return Lbn(lbn_in(h, left));
         }
         left -= count;
-        h = header_of(image, v, places, FileNumber(m_efnu(h) as u32));
+        let next = next_header(image, v, places, h);
+        h = next;
     }
 }

@@ -18,7 +18,8 @@ use Rattle.home.specs.Home.{blocks}
 use Rattle.volume.specs.Volume.{fmax, hasSlot, header, faultOf, inUse, isNumber}
 use Rattle.volume.specs.Opening.{openVolume}
 use Rattle.volume.proofs.VolumeLaws.{opens, header-length}
-use Rattle.chains.specs.Chains.{goodLink, chain, chainOf, linkOf, goodChain, flat, fileBlocks}
+use Rattle.chains.specs.Chains.{goodLink, chain, chainOf, linkOf, goodChain, fileBlocks}
+use Rattle.pointers.specs.Pointers.{flat}
 use Rattle.lists.specs.Lists.{every}
 use Rattle.chains.proofs.LinkLaws.{good-links}
 use Rattle.lists.specs.Counts.{count, In}

@@ -16,7 +16,8 @@ use Rattle.radix50.specs.Names.{proper}
 use Rattle.volume.specs.Volume.{fmax}
 use Rattle.verdict.specs.Verdict.{verdict}
 use Rattle.update.specs.declared.answers.Created.the-variants.{Refused}
-use Rattle.update.specs.Create.{freeNumber, createOutcome, created, createTests}
+use Rattle.spare_number.specs.SpareNumber.{spareNumber}
+use Rattle.update.specs.Create.{createOutcome, created, createTests}
 
 -- The tests, in their order.
 module _ (image : List ℕ) (name : Name) where
@@ -24,13 +25,13 @@ module _ (image : List ℕ) (name : Name) where
   unfolding createTests unless _then_
   tests-improper e = rw e
 
-  pub tests-none : proper name ≡ true → fmax image < freeNumber image → createTests image name ≡ outcome.Refused refusal.Nonumber
+  pub tests-none : proper name ≡ true → fmax image < spareNumber image → createTests image name ≡ outcome.Refused refusal.Nonumber
   unfolding createTests unless _then_
-  tests-none e l = rw (e, lt-leb (freeNumber image) (fmax image) l)
+  tests-none e l = rw (e, lt-leb (spareNumber image) (fmax image) l)
 
-  pub tests-passed : proper name ≡ true → freeNumber image ≤ fmax image → createTests image name ≡ outcome.Passed
+  pub tests-passed : proper name ≡ true → spareNumber image ≤ fmax image → createTests image name ≡ outcome.Passed
   unfolding createTests unless _then_
-  tests-passed e l = rw (e, le-leb (freeNumber image) (fmax image) l)
+  tests-passed e l = rw (e, le-leb (spareNumber image) (fmax image) l)
 
 -- What is answered where the tests refuse.
 pub answer-refused : (o : Outcome) (r : Refusal) (id : FileId) → o ≡ outcome.Refused r → Refused r ≡ created o id

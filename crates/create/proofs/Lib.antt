@@ -1,2 +1,1 @@
-pub mod SpareLaws
 pub mod CreateLaws

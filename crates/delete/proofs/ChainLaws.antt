@@ -14,7 +14,8 @@ use Rattle.volume.specs.Volume.{ibsz, iblb, slot, slots, hasSlot, header, fault
 use Rattle.volume.specs.Opening.{Laid}
 use Rattle.volume.specs.declared.Volume.{Volume}
 use Rattle.volume.proofs.VolumeLaws.{slot-below, header-length, says, says-base}
-use Rattle.chains.specs.Chains.{chainOf, flat, IsFirst, slotsOf}
+use Rattle.chains.specs.Chains.{chainOf, IsFirst, slotsOf}
+use Rattle.pointers.specs.Pointers.{flat}
 use Rattle.lists.specs.Counts.{In}
 use Rattle.lists.proofs.CountLaws.{count-at}
 use Rattle.slots.proofs.SlotLaws.{used-range}

@@ -11,7 +11,7 @@ use Rattle.image.specs.Stores.{splice, putBits, putBlock, putMapBits}
 use Rattle.image.proofs.StoreLaws.{part-splice}
 use Rattle.image.proofs.BitLaws.{putBits-none, putBits-append}
 use Rattle.pointers.specs.Pointers.{pointersAt, pointers, Fits, blocksOf}
-use Rattle.chains.specs.Chains.{flat}
+use Rattle.pointers.specs.Pointers.{flat}
 use Rattle.covers.specs.Covered.{Ends}
 use Rattle.header_edit.specs.Cleared.{clearedSlot}
 use Rattle.update.specs.Create.{indexBit}

@@ -10,7 +10,7 @@ use answer::types::Lbn;
 use chains::members_of;
 use open_file::open_on;
 use update::answers::Deleted;
-use verdict::judging::judge_volume;
+use verdict::judge_volume;
 use volume::Places;
 use volume::Volume;
 use volume::map_blocks;

@@ -12,7 +12,7 @@ ghost use Prim.Native.Nat.{_+_, _*_, _≤_};
 ghost use lib.ListN.{length, take};
 ghost use Rattle.image.specs.Blocks.{block};
 ghost use Rattle.pointers.specs.Pointers.{run, blocksOf};
-ghost use Rattle.chains.specs.Chains.{flat};
+ghost use Rattle.pointers.specs.Pointers.{flat};
 ghost use Rattle.header_edit.specs.Cleared.{clearedSlot};
 ghost use Rattle.image.specs.Stores.{putBlock, putMapBits};
 ghost use Rattle.update.specs.Delete.{indexBits, clearSlots};

@@ -1,8 +1,8 @@
 // The search through the records of a directory.
 use answer::types::FileNumber;
 use answer::types::Lbn;
-use chains::header_of;
 use chains::lbn_at;
+use chains::next_header;
 use header::fields::m_efnu;
 use image::blocks::block;
 use image::blocks::region;
@@ -95,11 +95,11 @@ pub fn search_file(
         }
         place = start + r;
         start += 32 * count;
-        let next = m_efnu(h) as u32;
-        if next == 0 {
+        if m_efnu(h) == 0 {
             return place;
         }
-        h = header_of(image, v, places, FileNumber(next));
+        let next = next_header(image, v, places, h);
+        h = next;
     }
 }
 

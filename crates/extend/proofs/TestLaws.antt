@@ -13,17 +13,17 @@ use Rattle.answer.specs.declared.outcome.Outcome.{Outcome}
 use Rattle.answer.specs.declared.outcome.Outcome.the-variants as outcome
 use Rattle.answer.specs.Outcome.{unless, _then_}
 use Rattle.answer.proofs.OutcomeLaws.{then-passed, then-refused, passed-last, passed-first}
-use Rattle.header.specs.Fields.{userFlags}
 use Rattle.home.specs.Home.{blocks}
 use Rattle.volume.specs.Volume.{slot, header, storageMap}
 use Rattle.volume.specs.Opening.{openVolume}
-use Rattle.open_file.specs.Opening.{hasFlag, find, access, chained, openFile}
+use Rattle.header.specs.Flags.{isFixed}
+use Rattle.open_file.specs.Opening.{find, access, chained, openFile}
 use Rattle.verdict.specs.Verdict.{verdict}
 use Rattle.runs.specs.declared.Start.{Start}
 use Rattle.runs.specs.declared.Start.the-variants as starts
 use Rattle.runs.specs.Runs.{startOf}
 use Rattle.update.specs.declared.answers.Extended.the-variants as answers
-use Rattle.update.specs.Extend.{isKnownNumber, isFixed, isCount, hasRoom, runStart, hasRun, extendOutcome, extended, extendTests}
+use Rattle.update.specs.Extend.{isKnownNumber, isCount, hasRoom, runStart, hasRun, extendOutcome, extended, extendTests}
 use Rattle.chains.specs.Chains.{lastNumber}
 use Rattle.extend.specs.declared.plan.Plan.{Plan}
 use Rattle.extend.specs.declared.plan.Plan.the-variants as plan
@@ -44,14 +44,14 @@ module _ (h : List ℕ) (n c : ℕ) where
   admits-known l = rw (le-leb n 5 l)
 
   module _ (high : 5 < n) where
-    pub admits-fixed : userFlags h / 128 % 2 ≡ 1 → admits ≡ outcome.Refused refusal.Fixed
-    unfolding isKnownNumber isFixed hasFlag unless _then_
-    admits-fixed e = rw (lt-leb n 5 high, eq-eqb (userFlags h / 128 % 2) 1 e)
+    pub admits-fixed : isFixed h ≡ true → admits ≡ outcome.Refused refusal.Fixed
+    unfolding isKnownNumber unless _then_
+    admits-fixed e = rw (lt-leb n 5 high, e)
 
-    module _ (free : userFlags h / 128 % 2 ≡ 1 → ⊥) where
+    module _ (free : isFixed h ≡ false) where
       counts : admits ≡ unless (isCount c) refusal.Count
-      unfolding isKnownNumber isFixed hasFlag unless _then_
-      counts = rw (lt-leb n 5 high, ne-eqb (userFlags h / 128 % 2) 1 free)
+      unfolding isKnownNumber unless _then_
+      counts = rw (lt-leb n 5 high, free)
 
       pub admits-few : c < 1 → admits ≡ outcome.Refused refusal.Count
       unfolding isCount unless

@@ -12,7 +12,8 @@ use Rattle.header.specs.Fields.{hMpof, mUse, mMax}
 use Rattle.home.specs.Home.{blocks}
 use Rattle.volume.specs.Volume.{header, mapBlocks, base}
 use Rattle.open_file.specs.Opening.{openFile}
-use Rattle.update.specs.Extend.{isKnownNumber, isFixed, isCount, hasRoom, hasRun}
+use Rattle.update.specs.Extend.{isKnownNumber, isCount, hasRoom, hasRun}
+use Rattle.header.specs.Flags.{isFixed}
 use Rattle.chains.specs.Chains.{lastNumber}
 use Rattle.extend.specs.declared.plan.Plan.{Plan}
 use Rattle.extend.specs.declared.plan.Plan.the-variants as plan

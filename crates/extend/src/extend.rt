@@ -5,7 +5,7 @@ use crate::taking::take;
 use answer::outcome::Outcome;
 use answer::types::FileId;
 use update::answers::Extended;
-use verdict::judging::judge_volume;
+use verdict::judge_volume;
 use volume::Places;
 use volume::Volume;
 ghost use mathlib.Core.Path.{_≡_};

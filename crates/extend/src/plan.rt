@@ -5,10 +5,11 @@ use answer::types::FileId;
 use answer::types::FileNumber;
 use answer::types::Lbn;
 use chains::members_of;
-use header::fields::user_flags;
+use header::fields::m_max;
+use header::fields::m_use;
+use header::flags::is_fixed;
 use image::blocks::block;
 use image::blocks::region;
-use image::words::byte_or_zero;
 use open_file::open_on;
 use runs::Start;
 use runs::lowest_run;
@@ -24,7 +25,8 @@ ghost use Rattle.answer.specs.Outcome.{unless, _then_};
 ghost use Rattle.volume.specs.Volume.{slot};
 ghost use Rattle.volume.specs.Opening.{Open, Recorded};
 ghost use Rattle.chains.specs.Chains.{goodChain, IsFirst, lastNumber};
-ghost use Rattle.update.specs.Extend.{isKnownNumber, isFixed, isCount, hasRoom, runStart, hasRun, extendTests};
+ghost use Rattle.update.specs.Extend.{isKnownNumber, isCount, hasRoom, runStart, hasRun, extendTests};
+ghost use Rattle.header.specs.Flags.{isFixed};
 ghost use Rattle.extend.specs.Tests.{planned};
 
 // What the tests come to.
@@ -41,7 +43,7 @@ fn admit(h: &[u8], n: u16, c: u32) -> Outcome
     if n <= 5 {
         return Outcome::Refused(Refusal::Known);
     }
-    if user_flags(h) / 128 % 2 == 1 {
+    if is_fixed(h) {
         return Outcome::Refused(Refusal::Fixed);
     }
     if c < 1 {
@@ -57,10 +59,7 @@ fn admit(h: &[u8], n: u16, c: u32) -> Outcome
 fn has_room(h: &[u8]) -> bool
     ensures { λ r. ⌜ r ≡ hasRoom (now (h .entry)) ⌝ }
 {
-    let at = 2 * (byte_or_zero(h, 1) as usize);
-    let used = byte_or_zero(h, at + 8) as u16;
-    let most = byte_or_zero(h, at + 9) as u16;
-    used + 2 <= most
+    (m_use(h) as u16) + 2 <= (m_max(h) as u16)
 }
 
 // The LBN of the last header of the file whose first header has number n and lies at this LBN.

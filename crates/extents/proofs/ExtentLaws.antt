@@ -23,9 +23,10 @@ use Rattle.mapping.specs.Mapping.{hasVbn, lbnOf, findVbn, mapped, mapAnswer}
 use Rattle.mapping.proofs.MappingLaws.{map-done}
 use Rattle.extents.specs.declared.Extent.{Extent}
 use Rattle.extents.specs.declared.Extent.the-variants.{Done, Refused}
-use Rattle.extents.specs.Extents.{rowLength, extentFrom, extentAnswer}
+use Rattle.rows.specs.Rows.{rowLength}
+use Rattle.extents.specs.Extents.{extentFrom, extentAnswer}
 use Rattle.extents.specs.Claims.{ExtentsMap}
-use Rattle.extents.proofs.RowLaws.{InRow, row-has, row-some}
+use Rattle.rows.proofs.RowLaws.{InRow, row-has, row-some}
 
 -- The blocks of the file that an ID names.
 abbrev pub blocks : List ℕ → FileId → List ℕ

@@ -1,2 +1,1 @@
 pub mod ExtentLaws
-pub mod RowLaws

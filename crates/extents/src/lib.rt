@@ -1,6 +1,4 @@
 // Extents of a file: from a VBN on, the blocks that lie one after the other on the volume.
-use crate::rows::Row;
-use crate::rows::row_of;
 use answer::outcome::Outcome;
 use answer::refusal::Refusal;
 use answer::types::FileId;
@@ -8,11 +6,11 @@ use answer::types::FileNumber;
 use answer::types::Lbn;
 use answer::types::Vbn;
 use open_file::open;
+use rows::Row;
+use rows::row_of;
 ghost use mathlib.Core.Path.{_≡_};
 ghost use Rattle.extents.specs.Extents.{extentAnswer};
 ghost use Rattle.extents.specs.Claims.{ExtentsMap};
-
-mod rows;
 
 // The answer of asking for an extent.
 pub enum Extent {

@@ -12,17 +12,8 @@ use Rattle.chains.specs.Chains.{fileBlocks}
 use Rattle.open_file.specs.Opening.{openFile}
 use Rattle.file_facts.specs.declared.FileFacts.{FileFacts}
 use Rattle.file_facts.specs.declared.Described.the-variants as described
-use Rattle.file_facts.specs.Files.{fEfbk, fFfby, endOf, fileFacts, describedBy, fileAnswer}
-
--- The attributes give no end, or they give one.
-module _ (h : List ℕ) (count : ℕ) where
-  pub end-none : fEfbk h ≡ 0 → endOf h count ≡ 512 * count
-  unfolding endOf
-  end-none e = rw (eq-eqb (fEfbk h) 0 e)
-
-  pub end-given : (fEfbk h ≡ 0 → ⊥) → endOf h count ≡ min (512 * (fEfbk h - 1) + fFfby h) (512 * count)
-  unfolding endOf
-  end-given e = rw (ne-eqb (fEfbk h) 0 e)
+use Rattle.header.specs.Attributes.{fEfbk, fFfby, endOf}
+use Rattle.file_facts.specs.Files.{fileFacts, describedBy, fileAnswer}
 
 module _ (image : List ℕ) (id : FileId) where
   pub described-refused : (r : Refusal) → openFile image id ≡ Refused r → described.Refused r ≡ fileAnswer image id

@@ -2,14 +2,14 @@
 use answer::outcome::Outcome;
 use answer::refusal::Refusal;
 use answer::types::FileId;
+use header::attributes::end_of;
+use header::attributes::long_at;
 use image::blocks::block;
 use image::words::word_at;
 use open_file::open;
 ghost use mathlib.Core.Path.{_≡_};
-ghost use Prim.Native.Nat.{_+_, _*_, _<_};
 ghost use lib.ListN.{length};
-ghost use Rattle.image.specs.Words.{wordAt};
-ghost use Rattle.file_facts.specs.Files.{endOf, fileFacts, fileAnswer};
+ghost use Rattle.file_facts.specs.Files.{fileFacts, fileAnswer};
 
 // What an opened file says of itself.
 pub struct FileFacts {
@@ -39,28 +39,6 @@ pub struct FileFacts {
 pub enum Described {
     Done(FileFacts),
     Refused(Refusal),
-}
-
-// Two words of a header as one number, the high word first.
-fn long_at(h: &[u8], at: usize) -> u32
-    requires { ⌜ at + 3 < length (now h) ⌝ }
-    ensures { λ r. ⌜ r ≡ 65536 * wordAt (now (h .entry)) at + wordAt (now (h .entry)) (at + 2) ⌝ }
-{
-    65536 * (word_at(h, at) as u32) + (word_at(h, at + 2) as u32)
-}
-
-// How many bytes of a file of so many blocks, whose first header is h, lie before its end.
-fn end_of(h: &[u8], count: u32) -> u64
-    requires { ⌜ length (now h) ≡ 512 ⌝ }
-    ensures { λ r. ⌜ r ≡ endOf (now (h .entry)) count ⌝ }
-{
-    let all = 512 * (count as u64);
-    let last = long_at(h, 22);
-    if last == 0 {
-        return all;
-    }
-    let end = 512 * ((last as u64) - 1) + (word_at(h, 26) as u64);
-    if end <= all { end } else { all }
 }
 
 // What the first header of a file of so many blocks says.

@@ -10,7 +10,7 @@ use lib.Dec.{eqb}
 use Rattle.image.specs.Blocks.{block}
 use Rattle.header.specs.Fields.{segment, mEfnu}
 use Rattle.volume.specs.Volume.{fmax, header, inUse}
-use Rattle.slots.specs.declared.slots.SlotRun.{SlotRun}
+use Rattle.slots.specs.declared.SlotRun.{SlotRun}
 use Rattle.slots.specs.Slots.{Stands}
 use Rattle.slots.proofs.SlotLaws.{stands-read, used-range}
 use Rattle.files.specs.Files.{badFile}

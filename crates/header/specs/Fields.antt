@@ -53,3 +53,13 @@ mUse h = byteAt h (mapArea h + 8)
 
 unfoldable pub mMax : List ℕ → ℕ
 mMax h = byteAt h (mapArea h + 9)
+
+-- 01, The header: "H.FOWN 8, H.FPRO 10, user flags 12, system flags 13". The two flag bytes are one word, H.FCHA (000, 3.4.1.8).
+unfoldable pub hFown : List ℕ → ℕ
+hFown h = wordAt h 8
+
+unfoldable pub hFpro : List ℕ → ℕ
+hFpro h = wordAt h 10
+
+unfoldable pub hFcha : List ℕ → ℕ
+hFcha h = wordAt h 12

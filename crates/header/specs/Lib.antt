@@ -1,1 +1,4 @@
 pub mod Fields
+pub mod Flags
+pub mod Ident
+pub mod Attributes

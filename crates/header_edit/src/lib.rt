@@ -1,7 +1,8 @@
 // A header that a call changes: one retrieval pointer more, or its slot cleared.
 use fresh_header::seal;
 use header::fields::h_fseq;
-use image::words::byte_or_zero;
+use header::fields::m_use;
+use header::fields::map_area;
 use pointers::first_pointer;
 use pointers::pointer_number;
 use stores::clear;
@@ -21,22 +22,6 @@ pub fn clear_slot(h: &mut [u8])
     let sequence = h_fseq(h);
     clear(h);
     put_word(h, 4, sequence);
-}
-
-// The byte of the header at which its map area begins.
-fn map_area(h: &[u8]) -> usize
-    ensures { λ r. ⌜ (r ≡ mapArea (now (h .entry))) × (r ≤ 510) ⌝ }
-{
-    let mpof = byte_or_zero(h, 1);
-    2 * (mpof as usize)
-}
-
-// M.USE, the words of the pointers in use.
-fn m_use(h: &[u8]) -> u8
-    ensures { λ r. ⌜ r ≡ mUse (now (h .entry)) ⌝ }
-{
-    let at = map_area(h);
-    byte_or_zero(h, at + 8)
 }
 
 // The pointer to the c blocks from LBN s on, at a byte of the header.

@@ -22,47 +22,15 @@ use Rattle.home.specs.Home.{blocks}
 use Rattle.volume.specs.Volume.{slot, header, faultOf, isNumber}
 use Rattle.volume.specs.Opening.{openVolume}
 use Rattle.chains.proofs.NumberLaws.{number-length, number-fits}
+use Rattle.chains.specs.Finding.{findNumber}
+use Rattle.chains.proofs.FindingLaws.{find-is}
 use Rattle.header_facts.specs.declared.HeaderFacts.{HeaderFacts}
 use Rattle.header_facts.specs.declared.Shown.the-variants as shown
 use Rattle.header_facts.specs.declared.Pointed.the-variants as pointed
-use Rattle.header_facts.specs.Headers.{findNumber, findHeader, identWord, identName, factsOf, shownBy, headerAnswer, pointerAt, findPointer, pointedBy, pointerAnswer}
-
--- The five words from the ident area's first byte on are the name.
-module _ (h : List ℕ) (at : ℕ) (e : at ≡ 2 * hIdof h) where
-  ident-word : (k x : ℕ) → x ≡ at + 2 * k → wordAt h x ≡ identWord h k
-  unfolding identWord
-  ident-word k x f = ap (wordAt h) (omega arith)
-
-  pub ident-name : (name : Name) → name .name1 ≡ wordAt h at → name .name2 ≡ wordAt h (at + 2) → name .name3 ≡ wordAt h (at + 4)
-      → name .typ ≡ wordAt h (at + 6) → name .version ≡ wordAt h (at + 8) → name ≡ identName h
-  unfolding identName
-  ident-name name a b c d f = λ i. record {
-    name1 = (a ∙ ident-word 0 at (omega arith)) i;
-    name2 = (b ∙ ident-word 1 (at + 2) (omega arith)) i;
-    name3 = (c ∙ ident-word 2 (at + 4) (omega arith)) i;
-    typ = (d ∙ ident-word 3 (at + 6) (omega arith)) i;
-    version = (f ∙ ident-word 4 (at + 8) (omega arith)) i;
-  }
+use Rattle.header_facts.specs.Headers.{findHeader, factsOf, shownBy, headerAnswer, findPointer, pointedBy, pointerAnswer}
+use Rattle.pointers.specs.Pointers.{pointerAt}
 
 module _ (image : List ℕ) (n : ℕ) where
-  -- What finding the header on an opened volume comes to, by its tests.
-  pub find-number : isNumber image n ≡ false → findNumber image n ≡ Refused refusal.Number
-  unfolding findNumber unless _then_
-  find-number u = rw u
-
-  module _ (u : isNumber image n ≡ true) where
-    pub find-unwhole : (faultOf image n ≡ 0 → ⊥) → findNumber image n ≡ Refused (refusal.Header (faultOf image n))
-    unfolding findNumber unless _then_
-    find-unwhole w = rw (u, ne-eqb (faultOf image n) 0 w)
-
-    pub find-passed : faultOf image n ≡ 0 → findNumber image n ≡ Passed
-    unfolding findNumber unless _then_
-    find-passed w = rw (u, eq-eqb (faultOf image n) 0 w)
-
-  -- What is refused lies nowhere.
-  pub refused-only : (r : Refusal) → findNumber image n ≡ Refused r → (lbn : ℕ) → findNumber image n ≡ Passed → lbn ≡ slot image n
-  refused-only r e lbn p = absurd (refused-not r (sym e ∙ p))
-
   -- The volume is opened first.
   pub find-closed : (r : Refusal) → openVolume image ≡ Refused r → findHeader image n ≡ Refused r
   unfolding findHeader _then_
@@ -74,12 +42,11 @@ module _ (image : List ℕ) (n : ℕ) where
 
   -- A header that was found is that of a number in use on a volume that opens, and is whole.
   tested : findHeader image n ≡ Passed → (openVolume image ≡ Passed) × (isNumber image n ≡ true) × (faultOf image n ≡ 0)
-  unfolding findHeader findNumber
+  unfolding findHeader
   tested e =
       let o = passed-then (openVolume image) _ e in
-      let u = passed-first (isNumber image n) refusal.Number _ (o .1) in
-      let w = passed-last (eqb (faultOf image n) 0) (refusal.Header (faultOf image n)) (u .1) in
-      (o .0, u .0, eqb-true (faultOf image n) 0 w)
+      let f = find-is image n (o .1) in
+      (o .0, f .0, f .1)
 
   -- Its pointers lie in it.
   pub found-fits : findHeader image n ≡ Passed → Fits (header image n)

@@ -15,7 +15,8 @@ use Rattle.volume.proofs.VolumeLaws.{fmax-below}
 use Rattle.sound.proofs.ChainLaws.{member-used}
 use Rattle.fresh_header.specs.Fresh.{freshHeader}
 use Rattle.fresh_header.proofs.FreshLaws.{fresh-is}
-use Rattle.update.specs.Create.{freeNumber, newSequence, createOutcome, withFile, withNumber}
+use Rattle.spare_number.specs.SpareNumber.{spareNumber, newSequence}
+use Rattle.update.specs.Create.{createOutcome, withFile, withNumber}
 use Rattle.update.proofs.Effects.{Good}
 use Rattle.update.proofs.FrameLaws.{volume-same, record-same, slots-same, header-same, opens-after, kept}
 use Rattle.update.proofs.PassedLaws.{CreatePassed, create-passed}
@@ -28,7 +29,7 @@ use Rattle.history.proofs.Step.{Step}
 module _ (image : List ℕ) (g : Good image) (name : Name) (owner protection : ℕ) (area headers : List ℕ) (w : Words (create name owner protection area headers))
     (p : createOutcome image name (length area) (length headers) ≡ Passed) where
   abbrev n : ℕ
-  n = freeNumber image
+  n = spareNumber image
 
   abbrev q : ℕ
   q = newSequence image n

@@ -17,8 +17,10 @@ use Rattle.volume.specs.Opening.{openVolume}
 use Rattle.volume.proofs.VolumeLaws.{opens-all}
 use Rattle.chains.specs.Chains.{chainOf, linkOf, goodChain}
 use Rattle.lists.specs.Lists.{every}
-use Rattle.open_file.specs.Opening.{find, locked, access, chained, openFile}
-use Rattle.open_file.proofs.OpeningLaws.{find-number, find-sequence, find-passed, chained-passed}
+use Rattle.open_file.specs.Opening.{find, access, chained, openFile}
+use Rattle.header.specs.Flags.{locked}
+use Rattle.chains.proofs.FindingLaws.{find-number, find-passed}
+use Rattle.open_file.proofs.OpeningLaws.{find-unfound, find-sequence, found-passed, chained-passed}
 use Rattle.lists.specs.Counts.{In}
 use Rattle.sound.specs.Claims.{IsFile}
 use Rattle.sound.proofs.MemberLaws.{in-here, in-tail}
@@ -56,10 +58,10 @@ module _ (image : List ℕ) (g : Good image) where
   module _ (id : FileId) (v : id .volume ≡ 0) where
     pub open-unused : inUse image (id .number) ≡ false → openFile image id ≡ Refused refusal.Number
     unfolding isNumber
-    open-unused u = open-refused id refusal.Number (find-number image id v (rw u))
+    open-unused u = open-refused id refusal.Number (find-unfound image id v refusal.Number (find-number image (id .number) (rw u)))
 
     pub open-stale : inUse image (id .number) ≡ true → (hFseq (header image (id .number)) ≡ id .sequence → ⊥) → openFile image id ≡ Refused refusal.Sequence
-    open-stale u ne = open-refused id refusal.Sequence (find-sequence image id v (used-number (id .number) u) (g .sound .whole (id .number) u) ne)
+    open-stale u ne = open-refused id refusal.Sequence (find-sequence image id v (find-passed image (id .number) (used-number (id .number) u) (g .sound .whole (id .number) u)) ne)
 
     pub open-file : IsFile image (id .number) → hFseq (header image (id .number)) ≡ id .sequence → locked (header image (id .number)) ≡ false
         → openFile image id ≡ Passed
@@ -68,5 +70,5 @@ module _ (image : List ℕ) (g : Good image) where
         let n = id .number in
         then-passed (openVolume image) (find image id then access image id then chained image id) (opens-all image (g .opens))
         ∙ then-passed (find image id) (access image id then chained image id)
-        (find-passed image id v (used-number n (file .used)) (g .sound .whole n (file .used)) q (file .first))
+        (found-passed image id v (find-passed image n (used-number n (file .used)) (g .sound .whole n (file .used))) q (file .first))
         ∙ then-passed (access image id) (chained image id) (ap (λ (b : Bool). unless (not b) refusal.Locked) unlocked) ∙ chained-passed image id (good-chain n file)

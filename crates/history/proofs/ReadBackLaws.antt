@@ -17,8 +17,10 @@ use Rattle.header.specs.Fields.{hFseq, userFlags, systemFlags, segment, mEfnu}
 use Rattle.pointers.specs.Pointers.{blocksOf}
 use Rattle.volume.specs.Volume.{header, inUse}
 use Rattle.open_file.specs.declared.OpenedFile.the-variants as openedFiles
-use Rattle.chains.specs.Chains.{chain, chainOf, flat, fileBlocks, lastNumber}
-use Rattle.open_file.specs.Opening.{hasFlag, locked, openFile, openedFile, openAnswer}
+use Rattle.chains.specs.Chains.{chain, chainOf, fileBlocks, lastNumber}
+use Rattle.pointers.specs.Pointers.{flat}
+use Rattle.header.specs.Flags.{hasFlag, locked}
+use Rattle.open_file.specs.Opening.{openFile, openedFile, openAnswer}
 use Rattle.lists.specs.Counts.{count, In}
 use Rattle.sound.specs.Claims.{IsFile}
 use Rattle.sound.proofs.MemberLaws.{flat-end}
@@ -29,7 +31,8 @@ use Rattle.update.specs.declared.answers.Extended.{Extended}
 use Rattle.update.specs.declared.answers.Extended.the-variants as extends
 use Rattle.update.specs.declared.answers.Deleted.{Deleted}
 use Rattle.update.specs.declared.answers.Deleted.the-variants as deletes
-use Rattle.update.specs.Create.{newSequence, createOutcome, newId, created, createAnswer}
+use Rattle.spare_number.specs.SpareNumber.{newSequence}
+use Rattle.update.specs.Create.{createOutcome, newId, created, createAnswer}
 use Rattle.update.specs.Extend.{runStart, extendOutcome, extended, extendAnswer}
 use Rattle.update.specs.Delete.{deleteOutcome, deleted, deleteAnswer}
 use Rattle.update.proofs.Effects.{Good, Extended as Extends}

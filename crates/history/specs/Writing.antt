@@ -12,7 +12,8 @@ use Rattle.volume.specs.Volume.{iblb, slot, slots, header, base, volumeOf, plac
 use Rattle.volume.specs.Opening.{openVolume}
 use Rattle.chains.specs.Chains.{chainOf, fileBlocks, lastNumber}
 use Rattle.lists.specs.Counts.{In}
-use Rattle.update.specs.Create.{freeNumber, indexBit}
+use Rattle.spare_number.specs.SpareNumber.{spareNumber}
+use Rattle.update.specs.Create.{indexBit}
 use Rattle.update.specs.Extend.{runStart}
 use Rattle.history.specs.Calls.{Call, create, extend, delete, outcomeOf, step, run, Words, Each}
 use Rattle.history.specs.Claims.{Accepted}
@@ -29,7 +30,7 @@ HasBit from j k = k ≡ from + j / 4096
 -- and the blocks of the new blocks' map bits; the slots of the chain, the blocks of their index bits, and the blocks of the file's map bits.
 abbrev pub Unwritten : Call → List ℕ → ℕ → Type 0
 Unwritten (create name owner protection area headers) image k =
-    (k ≡ slot image (freeNumber image) → ⊥) × (HasBit (iblb image) (indexBit (freeNumber image)) k → ⊥)
+    (k ≡ slot image (spareNumber image) → ⊥) × (HasBit (iblb image) (indexBit (spareNumber image)) k → ⊥)
 Unwritten (extend id c area headers) image k =
     (k ≡ slot image (lastNumber image (id .number)) → ⊥)
     × ((j : ℕ) → runStart image c ≤ j → j < runStart image c + c → HasBit (base image) j k → ⊥)

@@ -13,7 +13,8 @@ use Rattle.image.specs.Stores.{zeros}
 use Rattle.header.specs.Fields.{mEfnu}
 use Rattle.pointers.specs.Pointers.{blocksOf}
 use Rattle.home.specs.Home.{blocks}
-use Rattle.volume.specs.Volume.{ibsz, iblb, inUse, partSlot, partSlots, follows, leadsOn, placesFrom, places, mappedBy, indexEnds, padded}
+use Rattle.volume.specs.Volume.{ibsz, iblb, inUse, partSlot, partSlots, follows, leadsOn, placesFrom, places, indexEnds, padded}
+use Rattle.pointers.specs.Pointers.{flat}
 use Rattle.volume.specs.Opening.{FirstFit, Walked}
 use Rattle.volume.proofs.IndexLaws.{Lies, lies-fits, AllLie, lie-none, lie-last, Inside, mapped-inside, mapped-none, mapped-last, leads-none, leads-lies, from-end, from-more, from-last, ends-last, padded-take, padded-length, padded-more, used-low}
 
@@ -35,12 +36,12 @@ pub record Along (image arr : List ℕ) (count at : ℕ) : Type 0 where
   pub kept : arr ≡ padded so
   pub long : length so ≡ count
   pub room : count ≤ 255
-  pub all : places image ≡ so ++ placesFrom image (256 - count) (mappedBy image so) at
+  pub all : places image ≡ so ++ placesFrom image (256 - count) (flat (block image) so) at
   pub lie : AllLie image so
   pub here : Lies image at
 
 pub along-start : (image : List ℕ) (at : ℕ) → at ≡ iblb image + ibsz image → Lies image at → Along image (zeros 256) 0 at
-unfolding places padded mappedBy
+unfolding places padded flat
 along-start image at e here = record {
   so = [];
   kept = refl;
@@ -80,31 +81,31 @@ module _ (image arr : List ℕ) (count at : ℕ) (a : Along image arr count at) 
       let e : getD (set arr count at) j 0 ≡ getD seen j 0 = sym (getD-take (count + 1) (set arr count at) j 0 l) ∙ ap (λ (ls : List ℕ). getD ls j 0) along-take in
       rw e (lies-fits image size (getD seen j 0) (along-lie j (omega (arith, seen-long))))
 
-  pub along-inside : Inside image (mappedBy image seen)
+  pub along-inside : Inside image (flat (block image) seen)
   along-inside = mapped-inside image seen along-lie
 
-  part : mappedBy image seen ≡ mappedBy image (a .so) ++ blocksOf (block image at)
+  part : flat (block image) seen ≡ flat (block image) (a .so) ++ blocksOf (block image at)
   part = mapped-last image (a .so) at
 
   some : 256 - count ≡ 255 - count + 1
   some = omega (arith, a .room)
 
-  rest : places image ≡ a .so ++ placesFrom image (255 - count + 1) (mappedBy image (a .so)) at
-  rest = a .all ∙ ap (λ (f : ℕ). a .so ++ placesFrom image f (mappedBy image (a .so)) at) some
+  rest : places image ≡ a .so ++ placesFrom image (255 - count + 1) (flat (block image) (a .so)) at
+  rest = a .all ∙ ap (λ (f : ℕ). a .so ++ placesFrom image f (flat (block image) (a .so)) at) some
 
   -- The header at hand is the last: it leads on to none, or there are 256.
-  stops : leadsOn image (mappedBy image seen) (block image at) ≡ false → places image ≡ seen
-  stops e = rest ∙ ap (λ (l : List ℕ). a .so ++ l) (from-end image (255 - count) (mappedBy image (a .so)) at (rw (← part) e))
+  stops : leadsOn image (flat (block image) seen) (block image at) ≡ false → places image ≡ seen
+  stops e = rest ∙ ap (λ (l : List ℕ). a .so ++ l) (from-end image (255 - count) (flat (block image) (a .so)) at (rw (← part) e))
 
   full : count + 1 ≡ 256 → places image ≡ seen
   full e =
       let f : 256 - count ≡ 1 = omega arith in
-      a .all ∙ rw f (ap (λ (l : List ℕ). a .so ++ l) (from-last image (mappedBy image (a .so)) at))
+      a .all ∙ rw f (ap (λ (l : List ℕ). a .so ++ l) (from-last image (flat (block image) (a .so)) at))
 
   bad : (mEfnu (block image at) ≡ 0 → ⊥) → places image ≡ seen → indexEnds image ≡ false
   bad ne e = ends-last image (a .so) at e ∙ ne-eqb (mEfnu (block image at)) 0 ne
 
-  pub along-bad : (mEfnu (block image at) ≡ 0 → ⊥) → leadsOn image (mappedBy image seen) (block image at) ≡ false → indexEnds image ≡ false
+  pub along-bad : (mEfnu (block image at) ≡ 0 → ⊥) → leadsOn image (flat (block image) seen) (block image at) ≡ false → indexEnds image ≡ false
   along-bad ne e = bad ne (stops e)
 
   pub along-full : (mEfnu (block image at) ≡ 0 → ⊥) → count + 1 ≡ 256 → indexEnds image ≡ false
@@ -112,15 +113,15 @@ module _ (image arr : List ℕ) (count at : ℕ) (a : Along image arr count at) 
 
   pub along-end : mEfnu (block image at) ≡ 0 → Walked image (count + 1) (set arr count at)
   along-end e =
-      let f = stops (leads-none image (mappedBy image seen) (block image at) e) in
+      let f = stops (leads-none image (flat (block image) seen) (block image at) e) in
       let ends : indexEnds image ≡ true = ends-last image (a .so) at f ∙ eq-eqb (mEfnu (block image at)) 0 e in
       (ne-eqb (count + 1) 0 (omega arith) ∙ rw ends refl, λ p. (rw f (sym seen-long), rw f along-stored))
 
   -- The walk comes to the header that the one at hand leads on to.
-  pub along-next : leadsOn image (mappedBy image seen) (block image at) ≡ true → count + 1 ≤ 255 → (next : ℕ)
-      → next ≡ partSlot (ibsz image) (mappedBy image seen) (mEfnu (block image at)) → Along image (set arr count at) (count + 1) next
+  pub along-next : leadsOn image (flat (block image) seen) (block image at) ≡ true → count + 1 ≤ 255 → (next : ℕ)
+      → next ≡ partSlot (ibsz image) (flat (block image) seen) (mEfnu (block image at)) → Along image (set arr count at) (count + 1) next
   along-next e room next f =
-      let more = mappedBy image (a .so) ++ blocksOf (block image at) in
+      let more = flat (block image) (a .so) ++ blocksOf (block image at) in
       let g : 255 - count ≡ 256 - (count + 1) = omega arith in
       record {
         so = seen;
@@ -129,8 +130,8 @@ module _ (image arr : List ℕ) (count at : ℕ) (a : Along image arr count at) 
         room = room;
         all =
             rw (f, part, ← g)
-            (rest ∙ ap (λ (l : List ℕ). a .so ++ l) (from-more image (255 - count) (mappedBy image (a .so)) at (rw (← part) e))
+            (rest ∙ ap (λ (l : List ℕ). a .so ++ l) (from-more image (255 - count) (flat (block image) (a .so)) at (rw (← part) e))
             ∙ sym (append-assoc (a .so) (at ∷ []) (placesFrom image (255 - count) more (partSlot (ibsz image) more (mEfnu (block image at))))));
         lie = along-lie;
-        here = rw f (leads-lies image (mappedBy image seen) (block image at) along-inside e);
+        here = rw f (leads-lies image (flat (block image) seen) (block image at) along-inside e);
       }

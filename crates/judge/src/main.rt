@@ -4,9 +4,9 @@ use answer::refusal::number_of;
 use answer::refusal::place_of;
 use libc::STDIN_FILENO;
 use libc::STDOUT_FILENO;
-use verdict::judging::Counts;
-use verdict::judging::Judged;
-use verdict::judging::judge;
+use verdict::Counts;
+use verdict::Judged;
+use verdict::judge;
 
 // Writes text.
 fn say(text: &[u8]) {

@@ -16,7 +16,7 @@ use Rattle.chains.proofs.LinkLaws.{link-more, links-number, links-none}
 use Rattle.lists.specs.Counts.{count}
 use Rattle.marks.specs.Marks.{table, capped, tallied, cleared, raised}
 use Rattle.marks.proofs.MarkLaws.{cleared-tallied, tallied-drop, tallied-raised, tallied-other}
-use Rattle.slots.specs.declared.slots.SlotRun.{SlotRun}
+use Rattle.slots.specs.declared.SlotRun.{SlotRun}
 use Rattle.slots.specs.Slots.{Stands, gathered}
 use Rattle.slots.proofs.SlotLaws.{stands-read, used-range, gathered-none, gathered-used, gathered-unused}
 use Rattle.links.specs.Links.{linkOf, linked, raisedLink, linksWanted, badLinks, linksPlace, links}

@@ -4,7 +4,7 @@ use answer::types::Name;
 use change_words::put_created;
 use change_words::put_deleted;
 use change_words::put_extended;
-use create::create::create;
+use create::create;
 use delete::deleting::delete;
 use extend::extend::extend;
 ghost use mathlib.Core.Path.{_≡_};

@@ -1,5 +1,5 @@
 // The verdict on a volume.
-use verdict::judging::judge;
+use verdict::judge;
 use verdict_words::put_judged;
 ghost use mathlib.Core.Path.{_≡_};
 ghost use Rattle.verdict.specs.Verdict.{headerMarks, blockMarks, verdictAnswer};

@@ -18,10 +18,11 @@ use Rattle.header.specs.Fields.{hFseq, segment}
 use Rattle.volume.specs.Volume.{slot, header, faultOf, isNumber}
 use Rattle.volume.specs.Opening.{openVolume}
 use Rattle.chains.specs.Chains.{goodChain, IsFirst}
-use Rattle.open_file.specs.declared.Finding.{Finding}
-use Rattle.open_file.specs.declared.Finding.the-variants as findings
+use Rattle.chains.specs.Finding.{findNumber}
+use Rattle.chains.proofs.FindingLaws.{find-is}
 use Rattle.open_file.specs.declared.OpenFile.{OpenFile}
-use Rattle.open_file.specs.Opening.{find, finding, locked, access, chained, openFile, Tells, TellsPlaces}
+use Rattle.open_file.specs.Opening.{find, access, chained, openFile, Tells, TellsPlaces}
+use Rattle.header.specs.Flags.{locked}
 
 -- A refusal tells nothing but itself.
 pub tells-refused : (image : List ℕ) (id : FileId) (result : Outcome) (r : Refusal) (file : OpenFile)
@@ -36,56 +37,28 @@ places-refused image id result r file at e o b =
 
 module _ (image : List ℕ) (id : FileId) where
   -- What finding a header comes to, by its tests.
-  pub finding-at : find image id ≡ Passed → (lbn : Lbn) → lbn .0 ≡ slot image (id .number) → findings.At lbn ≡ finding (find image id) (slot image (id .number))
-  unfolding finding
-  finding-at e lbn s = rw (e, ← s)
-
-  pub finding-refused : (r : Refusal) → find image id ≡ Refused r → findings.Refused r ≡ finding (find image id) (slot image (id .number))
-  unfolding finding
-  finding-refused r e = rw e
-
-  -- What is known of the header by what finding it came to.
-  abbrev pub Found : Finding → Type 0
-  Found (findings.At lbn) = (find image id ≡ Passed) × (lbn .0 ≡ slot image (id .number))
-  Found (findings.Refused r) = find image id ≡ Refused r
-
-  pub found : (f : Finding) → f ≡ finding (find image id) (slot image (id .number)) → Found f
-  unfolding finding
-  found f e = subst Found (sym e) (go (find image id) refl)
-    where
-      go : (o : Outcome) → find image id ≡ o → Found (finding (find image id) (slot image (id .number)))
-      go Passed q = rw q (q, refl)
-      go (Refused r) q = rw q q
-
   pub find-relvol : (id .volume ≡ 0 → ⊥) → find image id ≡ Refused refusal.Relvol
   unfolding find unless _then_
   find-relvol v = rw (ne-eqb (id .volume) 0 v)
 
   module _ (v : id .volume ≡ 0) where
-    pub find-number : isNumber image (id .number) ≡ false → find image id ≡ Refused refusal.Number
+    pub find-unfound : (r : Refusal) → findNumber image (id .number) ≡ Refused r → find image id ≡ Refused r
     unfolding find unless _then_
-    find-number n = rw (eq-eqb (id .volume) 0 v, n)
+    find-unfound r e = rw (eq-eqb (id .volume) 0 v, e)
 
-    module _ (n : isNumber image (id .number) ≡ true) where
-      pub find-header : (faultOf image (id .number) ≡ 0 → ⊥) → find image id ≡ Refused (refusal.Header (faultOf image (id .number)))
+    module _ (n : findNumber image (id .number) ≡ Passed) where
+      pub find-sequence : (hFseq (header image (id .number)) ≡ id .sequence → ⊥) → find image id ≡ Refused refusal.Sequence
       unfolding find unless _then_
-      find-header w = rw (eq-eqb (id .volume) 0 v, n, ne-eqb (faultOf image (id .number)) 0 w)
+      find-sequence q = rw (eq-eqb (id .volume) 0 v, n, ne-eqb (hFseq (header image (id .number))) (id .sequence) q)
 
-      module _ (w : faultOf image (id .number) ≡ 0) where
-        pub find-sequence : (hFseq (header image (id .number)) ≡ id .sequence → ⊥) → find image id ≡ Refused refusal.Sequence
+      module _ (q : hFseq (header image (id .number)) ≡ id .sequence) where
+        pub find-segment : (segment (header image (id .number)) ≡ 0 → ⊥) → find image id ≡ Refused refusal.Segment
         unfolding find unless _then_
-        find-sequence q = rw (eq-eqb (id .volume) 0 v, n, eq-eqb (faultOf image (id .number)) 0 w, ne-eqb (hFseq (header image (id .number))) (id .sequence) q)
+        find-segment s = rw (eq-eqb (id .volume) 0 v, n, eq-eqb (hFseq (header image (id .number))) (id .sequence) q, ne-eqb (segment (header image (id .number))) 0 s)
 
-        module _ (q : hFseq (header image (id .number)) ≡ id .sequence) where
-          pub find-segment : (segment (header image (id .number)) ≡ 0 → ⊥) → find image id ≡ Refused refusal.Segment
-          unfolding find unless _then_
-          find-segment s =
-              rw (eq-eqb (id .volume) 0 v, n, eq-eqb (faultOf image (id .number)) 0 w, eq-eqb (hFseq (header image (id .number))) (id .sequence) q, ne-eqb (segment (header image (id .number))) 0 s)
-
-          pub find-passed : segment (header image (id .number)) ≡ 0 → find image id ≡ Passed
-          unfolding find unless _then_
-          find-passed s =
-              rw (eq-eqb (id .volume) 0 v, n, eq-eqb (faultOf image (id .number)) 0 w, eq-eqb (hFseq (header image (id .number))) (id .sequence) q, eq-eqb (segment (header image (id .number))) 0 s)
+        pub found-passed : segment (header image (id .number)) ≡ 0 → find image id ≡ Passed
+        unfolding find unless _then_
+        found-passed s = rw (eq-eqb (id .volume) 0 v, n, eq-eqb (hFseq (header image (id .number))) (id .sequence) q, eq-eqb (segment (header image (id .number))) 0 s)
 
   -- The flags are those of the header that was found.
   pub access-by : (h : List ℕ) → h ≡ header image (id .number) → unless (not (locked h)) refusal.Locked ≡ access image id
@@ -119,13 +92,13 @@ module _ (image : List ℕ) (id : FileId) where
   finds e =
       let n = id .number in
       let v = passed-first (eqb (id .volume) 0) refusal.Relvol _ e in
-      let u = passed-first (isNumber image n) refusal.Number _ (v .1) in
-      let w = passed-first (eqb (faultOf image n) 0) (refusal.Header (faultOf image n)) _ (u .1) in
-      let q = passed-first (eqb (hFseq (header image n)) (id .sequence)) refusal.Sequence _ (w .1) in
+      let u = passed-then (findNumber image n) _ (v .1) in
+      let w = find-is image n (u .0) in
+      let q = passed-first (eqb (hFseq (header image n)) (id .sequence)) refusal.Sequence _ (u .1) in
       let s = passed-last (eqb (segment (header image n)) 0) refusal.Segment (q .1) in
       record {
         relvol = eqb-true (id .volume) 0 (v .0);
-        first = (u .0, eqb-true (faultOf image n) 0 (w .0), eqb-true (segment (header image n)) 0 s);
+        first = (w .0, w .1, eqb-true (segment (header image n)) 0 s);
         sequence = eqb-true (hFseq (header image n)) (id .sequence) (q .0);
       }
 

@@ -1,8 +1,8 @@
 -- Opening a file by its ID: RELVOL, NUMBER, HEADER, SEQUENCE, SEGMENT; LOCKED; CHAIN, in this order.
 use mathlib.Core.Path.{_≡_}
-use mathlib.Core.Bool.{Bool, not, _||_}
+use mathlib.Core.Bool.{not}
 use mathlib.Core.List.{List}
-use Prim.Native.Nat.{ℕ, _/_, _%_, _≤_}
+use Prim.Native.Nat.{ℕ, _≤_}
 use lib.Dec.{eqb}
 use lib.ListN.{length}
 use Rattle.answer.specs.declared.types.FileId.{FileId}
@@ -10,38 +10,24 @@ use Rattle.answer.specs.declared.refusal.Refusal.the-variants as refusal
 use Rattle.answer.specs.declared.outcome.Outcome.{Outcome}
 use Rattle.answer.specs.declared.outcome.Outcome.the-variants as outcome
 use Rattle.answer.specs.Outcome.{unless, _then_}
-use Rattle.header.specs.Fields.{hFseq, userFlags, systemFlags, segment}
-use Rattle.volume.specs.Volume.{slot, header, faultOf, isNumber, volumeOf, placesOf}
+use Rattle.header.specs.Fields.{hFseq, segment}
+use Rattle.header.specs.Flags.{locked}
+use Rattle.volume.specs.Volume.{slot, header, volumeOf, placesOf}
 use Rattle.volume.specs.Opening.{openVolume}
 use Rattle.chains.specs.Chains.{goodChain, fileBlocks}
-use Rattle.open_file.specs.declared.Finding.{Finding}
-use Rattle.open_file.specs.declared.Finding.the-variants as findings
+use Rattle.chains.specs.Finding.{findNumber}
 use Rattle.open_file.specs.declared.OpenFile.{OpenFile}
 use Rattle.open_file.specs.declared.OpenedFile.{OpenedFile}
 use Rattle.open_file.specs.declared.OpenedFile.the-variants.{Done, Refused}
 
--- Finding the header. 01, Answer numbers: "6 RELVOL | third ID word not 0", "7 NUMBER | 0, above H.FMAX, no slot, not in use", "8 HEADER | not
--- whole", "9 SEQUENCE | H.FSEQ differs", "10 SEGMENT | segment not 0". HEADER carries the first unmet test.
+-- Finding the header. 01, Answer numbers: "6 RELVOL | third ID word not 0"; NUMBER and HEADER; "9 SEQUENCE | H.FSEQ differs", "10 SEGMENT | segment not
+-- 0".
 unfoldable pub find : List ℕ → FileId → Outcome
 find image id =
     unless (eqb (id .volume) 0) refusal.Relvol
-    then unless (isNumber image (id .number)) refusal.Number
-    then unless (eqb (faultOf image (id .number)) 0) (refusal.Header (faultOf image (id .number)))
+    then findNumber image (id .number)
     then unless (eqb (hFseq (header image (id .number))) (id .sequence)) refusal.Sequence
     then unless (eqb (segment (header image (id .number))) 0) refusal.Segment
-
--- What finding a header comes to: the LBN that it lies at, or the refusal.
-unfoldable pub finding : Outcome → ℕ → Finding
-finding outcome.Passed lbn = findings.At (record { 0 = lbn })
-finding (outcome.Refused r) lbn = findings.Refused r
-
--- A flag, given by its value (a power of 2), is set.
-unfoldable pub hasFlag : ℕ → ℕ → Bool
-hasFlag flags value = eqb (flags / value % 2) 1
-
--- 01, The header: "User flag 64 (deaccess-locked) or system flag 128 (marked for delete) in the first header refuses access."
-unfoldable pub locked : List ℕ → Bool
-locked h = hasFlag (userFlags h) 64 || hasFlag (systemFlags h) 128
 
 -- 01, Answer numbers: "11 LOCKED | either flag".
 unfoldable pub access : List ℕ → FileId → Outcome

@@ -5,27 +5,27 @@ use answer::types::FileId;
 use answer::types::FileNumber;
 use answer::types::Lbn;
 use chains::Chain;
+use chains::Finding;
 use chains::chain_blocks;
-use chains::slot_in_use;
+use chains::find_number;
 use header::fields::h_fseq;
 use header::fields::segment;
-use header::fields::system_flags;
-use header::fields::user_flags;
+use header::flags::is_locked;
 use image::blocks::block;
 use volume::Places;
-use volume::Slot;
 use volume::Volume;
-use whole::fault;
 ghost use mathlib.Core.Path.{_≡_};
 ghost use mathlib.Core.Bool.{not};
 ghost use Rattle.image.specs.Stores.{zeros};
 ghost use Rattle.answer.specs.declared.refusal.Refusal.the-variants as refusal;
 ghost use Rattle.answer.specs.declared.outcome.Outcome.the-variants as outcome;
 ghost use Rattle.answer.specs.Outcome.{unless, _then_};
+ghost use Rattle.header.specs.Flags.{locked};
 ghost use Rattle.volume.specs.Volume.{slot};
 ghost use Rattle.volume.specs.Opening.{Recorded};
 ghost use Rattle.chains.specs.Chains.{IsFirst};
-ghost use Rattle.open_file.specs.Opening.{find, finding, locked, access, chained, openFile, Tells, TellsPlaces, openAnswer};
+ghost use Rattle.chains.specs.Finding.{finding};
+ghost use Rattle.open_file.specs.Opening.{find, access, chained, openFile, Tells, TellsPlaces, openAnswer};
 
 // The answer of opening a file.
 pub enum OpenedFile {
@@ -45,13 +45,6 @@ pub struct OpenFile {
     pub blocks: u32,
 }
 
-// What finding a header comes to.
-pub enum Finding {
-    // It lies at this LBN.
-    At(Lbn),
-    Refused(Refusal),
-}
-
 // Finding the header: RELVOL, NUMBER, HEADER, SEQUENCE, SEGMENT.
 fn find(image: &[u8], v: Volume, places: &Places, id: FileId) -> Finding
     requires { ⌜ Recorded (now image) v (now places) ⌝ }
@@ -60,15 +53,10 @@ fn find(image: &[u8], v: Volume, places: &Places, id: FileId) -> Finding
     if id.volume != 0 {
         return Finding::Refused(Refusal::Relvol);
     }
-    let n = id.number as u32;
-    let place = slot_in_use(image, v, places, FileNumber(n));
-    match place {
-        Slot::At(lbn) => {
+    let found = find_number(image, v, places, FileNumber(id.number as u32));
+    match found {
+        Finding::At(lbn) => {
             let h = block(image, lbn.0);
-            let unmet = fault(h, v.blocks, n);
-            if unmet != 0 {
-                return Finding::Refused(Refusal::Header(unmet));
-            }
             if h_fseq(h) != id.sequence {
                 return Finding::Refused(Refusal::Sequence);
             }
@@ -77,21 +65,8 @@ fn find(image: &[u8], v: Volume, places: &Places, id: FileId) -> Finding
             }
             Finding::At(lbn)
         }
-        Slot::Missing => Finding::Refused(Refusal::Number),
+        Finding::Refused(r) => Finding::Refused(r),
     }
-}
-
-// Whether a flag of the first header refuses access.
-fn is_locked(h: &[u8]) -> bool
-    ensures { λ r. ⌜ r ≡ locked (now (h .entry)) ⌝ }
-{
-    if user_flags(h) / 64 % 2 == 1 {
-        return true;
-    }
-    if system_flags(h) / 128 % 2 == 1 {
-        return true;
-    }
-    false
 }
 
 // Access to a file whose header was found: LOCKED.

@@ -33,7 +33,8 @@ ghost use Rattle.answer.specs.declared.outcome.Outcome.the-variants as outcome;
 ghost use Rattle.pointers.specs.Pointers.{Fits, blocksOf};
 ghost use Rattle.home.specs.Home.{hIbsz, hIblb, hFmax, blocks, home};
 ghost use Rattle.volume.specs.Volume.{mapBlocks};
-ghost use Rattle.volume.specs.Opening.{sized, homed, indexMapBlocks, geometry, alone, storageMapped, Laid};
+ghost use Rattle.volume.specs.Opening.{sized, homed, geometry, alone, storageMapped, Laid};
+ghost use Rattle.volume.specs.Volume.{mapBlocks};
 ghost use Rattle.open_volume.specs.Answer.{volumeAnswer, TellsVolume};
 
 // The answer of opening a volume.
@@ -87,7 +88,7 @@ fn is_sized(image: &[u8]) -> bool
 fn has_geometry(b: &[u8], n: u32) -> bool
     requires { ⌜ length (now b) ≡ 512 ⌝ }
     ensures { λ r. ⌜ r ≡ (leb 16 (hFmax (now (b .entry)))
-        && eqb (hIbsz (now (b .entry))) (indexMapBlocks (hFmax (now (b .entry))))
+        && eqb (hIbsz (now (b .entry))) (mapBlocks (hFmax (now (b .entry))))
         && leb (hIblb (now (b .entry)) + hIbsz (now (b .entry)) + 16) n) ⌝ }
 {
     let ibsz = h_ibsz(b);

@@ -1,12 +1,14 @@
 -- A header's retrieval pointers, and the blocks that they cover.
+use mathlib.Core.Path.{_≡_}
 use mathlib.Core.Bool.{cond}
-use mathlib.Core.List.{List, [], _++_}
-use Prim.Native.Nat.{ℕ, zero, suc, _+_, _*_, _-_, _/_, _≤_}
+use mathlib.Core.List.{List, [], _++_, _∷_}
+use Prim.Native.Nat.{ℕ, zero, suc, _+_, _*_, _-_, _/_, _≤_, _<_}
 use lib.Dec.{ltb}
 use lib.ListN.{length, getD}
-use Rattle.image.specs.Words.{byteAt, wordAt}
 use Rattle.lists.specs.Lists.{numbersFrom}
+use Rattle.image.specs.Words.{byteAt, wordAt}
 use Rattle.header.specs.Fields.{mapArea, mUse}
+use Rattle.pointers.specs.declared.Spot.{Spot}
 use Rattle.pointers.specs.declared.Place.{Place}
 use Rattle.pointers.specs.declared.Place.the-variants.{At, Past}
 
@@ -43,6 +45,22 @@ Fits h = pointersAt h + 4 * pointers h ≤ length h
 unfoldable pub blocksOf : List ℕ → List ℕ
 blocksOf h = runs h (pointersAt h) (pointers h)
 
+-- The block at place i, from 0, of those that a header covers is that of this pointer, so far into it.
+pub record SpotOf (h : List ℕ) (i : ℕ) (spot : Spot) : Type 0 where
+  pub most : spot .pointer ≤ pointers h
+  pub place : i ≡ length (runs h (pointersAt h) (spot .pointer)) + spot .offset
+  pub inside : spot .pointer < pointers h → spot .offset < pointerCount h (pointersAt h + 4 * spot .pointer)
+  pub few : spot .pointer < pointers h → spot .offset < 256
+
 -- The block at a place, from 0, of a list of LBNs; or how far the place lies past them.
 unfoldable pub placeIn : List ℕ → ℕ → Place
 placeIn lbns i = cond (ltb i (length lbns)) (At (record { 0 = getD lbns i 0 })) (Past (i - length lbns))
+
+-- The LBNs that headers cover, those of one header after those of the other. hdr gives a header: that of a file number, or the one at an LBN.
+unfoldable pub flat : (ℕ → List ℕ) → List ℕ → List ℕ
+flat hdr [] = []
+flat hdr (n ∷ ns) = blocksOf (hdr n) ++ flat hdr ns
+
+-- Where retrieval pointer p, from 0, of a header stands. 01, The header: "pointers from 10"; a pointer has four bytes.
+unfoldable pub pointerAt : List ℕ → ℕ → ℕ
+pointerAt h p = pointersAt h + 4 * p

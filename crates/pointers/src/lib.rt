@@ -1,11 +1,12 @@
 // The retrieval pointers of a header, walked in order, and the blocks that they cover.
 use answer::types::Lbn;
-use image::words::byte_or_zero;
+use header::fields::m_use;
+use header::fields::map_area;
 use image::words::word_at;
 ghost use mathlib.Core.Path.{_≡_};
 ghost use Prim.Native.Nat.{_+_, _≤_, _<_, _^_};
 ghost use lib.ListN.{length, getD};
-ghost use Rattle.pointers.specs.Pointers.{pointerLbn, pointerCount, pointersAt, pointers, Fits, blocksOf, placeIn};
+ghost use Rattle.pointers.specs.Pointers.{pointerLbn, pointerCount, pointersAt, pointers, Fits, blocksOf, SpotOf, placeIn};
 
 // Where a place, from 0, lies in the blocks of a header.
 pub enum Place {
@@ -13,6 +14,14 @@ pub enum Place {
     At(Lbn),
     // Past the last, by so many.
     Past(u32),
+}
+
+// Which pointer of a header has a block.
+pub struct Spot {
+    // The pointer, from 0; past the last block, the number of pointers.
+    pub pointer: usize,
+    // How far into the pointer's blocks the block lies, from 0; past the last block, how far past.
+    pub offset: u32,
 }
 
 // A byte's value.
@@ -42,17 +51,14 @@ pub fn pointer_count(h: &[u8], at: usize) -> u32
 pub fn first_pointer(h: &[u8]) -> usize
     ensures { λ r. ⌜ (r ≡ pointersAt (now (h .entry))) × (r ≤ 520) ⌝ }
 {
-    let mpof = byte_or_zero(h, 1);
-    2 * (mpof as usize) + 10
+    map_area(h) + 10
 }
 
 // How many pointers are in use.
 pub fn pointer_number(h: &[u8]) -> usize
     ensures { λ r. ⌜ (r ≡ pointers (now (h .entry))) × (r ≤ 127) ⌝ }
 {
-    let mpof = byte_or_zero(h, 1);
-    let words = byte_or_zero(h, 2 * (mpof as usize) + 8);
-    (words as usize) / 2
+    (m_use(h) as usize) / 2
 }
 
 // How many blocks the header covers: one for each pointer, and what the count bytes add. A sum of machine words is the fastest; of narrower ones the
@@ -72,25 +78,37 @@ pub fn block_count(h: &[u8]) -> u32
     count as u32
 }
 
+// Which pointer has the block at place i, from 0, of the blocks that the header covers, and how far into it that block lies.
+pub fn spot_of(h: &[u8], i: u32) -> Spot
+    requires { ⌜ Fits (now h) ⌝ }
+    ensures { λ r. ⌜ SpotOf (now (h .entry)) i r ⌝ }
+{
+    let at = first_pointer(h);
+    let number = pointer_number(h);
+    let mut offset = i;
+    let mut pointer: usize = 0;
+    while pointer < number {
+        let count = pointer_count(h, at + 4 * pointer);
+        if offset < count {
+            return Spot { pointer, offset };
+        }
+        offset -= count;
+        pointer += 1;
+    }
+    Spot { pointer, offset }
+}
+
 // Where a place, from 0, lies in the blocks that the header covers.
 pub fn place_of(h: &[u8], i: u32) -> Place
     requires { ⌜ Fits (now h) ⌝ }
     ensures { λ r. ⌜ r ≡ placeIn (blocksOf (now (h .entry))) i ⌝ }
 {
-    let at = first_pointer(h);
-    let number = pointer_number(h);
-    let mut left = i;
-    let mut p: usize = 0;
-    while p < number {
-        let count = pointer_count(h, at + 4 * p);
-        if left < count {
-            let from = pointer_lbn(h, at + 4 * p);
-            return Place::At(Lbn(from + left));
-        }
-        left -= count;
-        p += 1;
+    let spot = spot_of(h, i);
+    if spot.pointer < pointer_number(h) {
+        let from = pointer_lbn(h, first_pointer(h) + 4 * spot.pointer);
+        return Place::At(Lbn(from + spot.offset));
     }
-    Place::Past(left)
+    Place::Past(spot.offset)
 }
 
 // The LBN of block i, from 0, of those that the header covers; 0 past the last.

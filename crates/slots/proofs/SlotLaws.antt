@@ -17,12 +17,14 @@ use Rattle.image.proofs.BlockLaws.{block-length}
 use Rattle.pointers.specs.Pointers.{pointerLbn, pointerCount, runs, pointersAt, pointers, blocksOf}
 use Rattle.pointers.proofs.PointerLaws.{runs-none, runs-length, runs-at, runs-inside}
 use Rattle.home.specs.Home.{blocks}
-use Rattle.volume.specs.Volume.{ibsz, fmax, indexHeader, places, mappedBy, index, slot, slots, header, indexMap, inUse}
+use Rattle.volume.specs.Volume.{ibsz, fmax, indexHeader, places, index, slot, slots, header, indexMap, inUse}
+use Rattle.pointers.specs.Pointers.{flat}
 use Rattle.volume.specs.declared.Volume.{Volume}
-use Rattle.volume.specs.Opening.{indexMapBlocks, Recorded}
+use Rattle.volume.specs.Volume.{mapBlocks}
+use Rattle.volume.specs.Opening.{Recorded}
 use Rattle.volume.proofs.IndexLaws.{mapped-none, mapped-step, mapped-here, places-least, places-start, further, index-split}
 use Rattle.volume.proofs.VolumeLaws.{Opens, index-file, headers-lie, headers-fit, opens, says, fmax-below, indexMap-length, slot-below}
-use Rattle.slots.specs.declared.slots.SlotRun.{SlotRun}
+use Rattle.slots.specs.declared.SlotRun.{SlotRun}
 use Rattle.slots.specs.Slots.{RunOf, blocksBefore, Begins, Stands, gathered}
 
 -- What is left of pointer p, among the blocks of k pointers.
@@ -129,7 +131,7 @@ module _ (image : List ℕ) (o : Opens image) (n k p : ℕ) (b : Begins image n 
   begins-run inside more l c first left =
       stands-run image o n _ some
       (rw (b .before inside, mapped-here image (places image) k inside)
-      (run-within (mappedBy image (take k (places image))) (blocksOf h) (mappedBy image (drop (k + 1) (places image))) (length (runs h (pointersAt h) p)) _ here some))
+      (run-within (flat (block image) (take k (places image))) (blocksOf h) (flat (block image) (drop (k + 1) (places image))) (length (runs h (pointersAt h) p)) _ here some))
       inside
       (record {
         segment = omega arith;
@@ -153,19 +155,19 @@ module _ (image : List ℕ) (o : Opens image) (n k p : ℕ) (b : Begins image n 
   begins-next inside past =
       let e : p ≡ pointers h = omega (arith, b .pointer inside) in
       let next = block image (getD (places image) (k + 1) 0) in
-      let all : 1 + ibsz image + n ≡ length (mappedBy image (take (k + 1) (places image))) =
+      let all : 1 + ibsz image + n ≡ length (flat (block image) (take (k + 1) (places image))) =
       omega (
         arith,
         b .before inside,
         ap (λ (q : ℕ). length (runs h (pointersAt h) q)) e,
         ap length (mapped-step image (places image) k inside),
-        length-append (mappedBy image (take k (places image))) (blocksOf h),
+        length-append (flat (block image) (take k (places image))) (blocksOf h),
       ) in
       record {
         segment = omega arith;
         pointer = λ l. omega arith;
         before = λ l. omega (arith, all, ap length (runs-none next (pointersAt next)));
-        past = λ l. omega (arith, all, ap (λ (ls : List ℕ). length (mappedBy image ls)) (take-all (k + 1) (places image) (omega arith)), index-file o .long);
+        past = λ l. omega (arith, all, ap (λ (ls : List ℕ). length (flat (block image) ls)) (take-all (k + 1) (places image) (omega arith)), index-file o .long);
       }
 
   pub begins-none : length (places image) ≤ k → Stands image n (record { lbn = record { 0 = 0 }; left = 0; segment = k; pointer = 0 })
@@ -257,7 +259,7 @@ module _ (image : List ℕ) (n : ℕ) where
 
   -- The index map has a bit for each number up to H.FMAX.
   pub bit-inside : Opens image → 1 ≤ n → n ≤ fmax image → (n - 1) / 8 < length (indexMap image)
-  unfolding indexMapBlocks
+  unfolding mapBlocks
   bit-inside o l h = omega (arith, indexMap-length o, o .maps)
 
 -- What a pass over the numbers of an opened volume reads: the region of the index map, and in it the bit of each number.

@@ -6,8 +6,9 @@ use Prim.Native.Nat.{ℕ, zero, suc, _+_, _≤_, _<_}
 use lib.ListN.{length, getD, take}
 use Rattle.image.specs.Blocks.{block}
 use Rattle.pointers.specs.Pointers.{runs, pointersAt, pointers}
-use Rattle.volume.specs.Volume.{ibsz, places, mappedBy, slot, slots, header, inUse}
-use Rattle.slots.specs.declared.slots.SlotRun.{SlotRun}
+use Rattle.volume.specs.Volume.{ibsz, places, slot, slots, header, inUse}
+use Rattle.pointers.specs.Pointers.{flat}
+use Rattle.slots.specs.declared.SlotRun.{SlotRun}
 
 -- The blocks from place i, from 0, of a list of LBNs on that lie in a row, and none past the last.
 pub record RunOf (lbns : List ℕ) (i : ℕ) (run : SlotRun) : Type 0 where
@@ -19,7 +20,7 @@ pub record RunOf (lbns : List ℕ) (i : ℕ) (run : SlotRun) : Type 0 where
 unfoldable pub blocksBefore : List ℕ → ℕ → ℕ → ℕ
 blocksBefore image k p =
     let h = block image (getD (places image) k 0) in
-    length (mappedBy image (take k (places image))) + length (runs h (pointersAt h) p)
+    length (flat (block image) (take k (places image))) + length (runs h (pointersAt h) p)
 
 -- Pointer p of header k of the index file begins with the slot of n. One past the last pointer of a header begins where the next header does, and past the
 -- last header there are no slots.

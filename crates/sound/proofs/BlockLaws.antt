@@ -10,7 +10,8 @@ use lib.Seq.{getD-append-add}
 use Rattle.header.specs.Fields.{mEfnu}
 use Rattle.pointers.specs.Pointers.{blocksOf}
 use Rattle.volume.specs.Volume.{header, inUse}
-use Rattle.chains.specs.Chains.{chain, flat}
+use Rattle.chains.specs.Chains.{chain}
+use Rattle.pointers.specs.Pointers.{flat}
 use Rattle.lists.specs.Counts.{In}
 use Rattle.sound.specs.Sound.{Covers, Sound}
 use Rattle.sound.proofs.MemberLaws.{flat-at, flat-end, flat-more}

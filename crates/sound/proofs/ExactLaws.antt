@@ -16,7 +16,7 @@ use Rattle.home.specs.Home.{blocks, position, homeIndex}
 use Rattle.volume.specs.Volume.{fmax}
 use Rattle.volume.specs.Opening.{openVolume}
 use Rattle.volume.proofs.VolumeLaws.{opens}
-use Rattle.verdict.specs.declared.judging.Counts.{Counts}
+use Rattle.verdict.specs.declared.Counts.{Counts}
 use Rattle.verdict.specs.Verdict.{roomy, ready, verdict, countsOf, judged, verdictAnswer}
 use Rattle.sound.specs.Sound.{BlockOf, Sound}
 use Rattle.sound.specs.Claims.{isDone, VerdictExact}

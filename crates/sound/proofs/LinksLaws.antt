@@ -9,7 +9,7 @@ use borrow.Author.Tests.{eq-eqb, ne-eqb}
 use lib.Dec.{eqb}
 use Rattle.answer.specs.declared.refusal.Refusal.the-variants as refusal
 use Rattle.header.specs.Fields.{hFseq, segment, mEfnu, mEfsq}
-use Rattle.volume.specs.Volume.{fmax, slots, hasSlot, header, faultOf, inUse, isNumber}
+use Rattle.volume.specs.Volume.{follows, fmax, slots, hasSlot, header, faultOf, inUse, isNumber}
 use Rattle.chains.specs.Chains.{linksOn, goodLink}
 use Rattle.lists.specs.Counts.{count}
 use Rattle.lists.proofs.SumLaws.{sumTo}
@@ -30,16 +30,16 @@ pub record LinksSound (image : List ℕ) : Type 0 where
 
 module _ (image : List ℕ) (n : ℕ) where
   pub link-is : Tests (goodLink image (header image n)) ((mEfnu (header image n) ≡ 0 → ⊥) → GoodLink image n)
-  unfolding goodLink linksOn isNumber hasSlot
+  unfolding goodLink linksOn follows faultOf isNumber hasSlot
   link-is =
       let h = header image n in
       let m = mEfnu h in
       t-or (t-eq m 0)
       (t-map
-      (λ r. record { used = r .0 .0 .0 .0; slotted = r .0 .0 .0 .1; whole = r .0 .0 .1; sequence = r .0 .1; next = r .1 })
-      (λ g. ((((g .used, g .slotted), g .whole), g .sequence), g .next))
-      (t-and (t-and (t-and (t-and (t-is (inUse image m)) (t-le m (slots image))) (t-eq (faultOf image m) 0)) (t-eq (hFseq (header image m)) (mEfsq h)))
-      (t-eq (segment (header image m)) (segment h + 1))))
+      (λ r. record { used = r .0 .0; slotted = r .0 .1; whole = r .1 .0 .0; sequence = r .1 .0 .1; next = r .1 .1 })
+      (λ g. ((g .used, g .slotted), ((g .whole, g .sequence), g .next)))
+      (t-and (t-and (t-is (inUse image m)) (t-le m (slots image)))
+      (t-and (t-and (t-eq (faultOf image m) 0) (t-eq (hFseq (header image m)) (mEfsq h))) (t-eq (segment (header image m)) (segment h + 1)))))
 
   -- M.EFNU of the header of k, as a list of one.
   link-given : (k : ℕ) → inUse image k ≡ true → mEfnu (header image k) ≡ n → Gives image linkOf k 0 n

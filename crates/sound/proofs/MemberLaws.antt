@@ -10,7 +10,8 @@ use lib.ListN.{length, getD, length-append, List·getD-append}
 use lib.Seq.{getD-append-add}
 use Rattle.header.specs.Fields.{mEfnu}
 use Rattle.pointers.specs.Pointers.{blocksOf}
-use Rattle.chains.specs.Chains.{chain, flat}
+use Rattle.chains.specs.Chains.{chain}
+use Rattle.pointers.specs.Pointers.{flat}
 use Rattle.chains.proofs.ChainLaws as file
 use Rattle.lists.specs.Counts.{In}
 use Rattle.lists.proofs.CountLaws.{count-none, count-here, count-skip, count-tail}

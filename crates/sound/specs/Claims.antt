@@ -10,8 +10,8 @@ use Rattle.home.specs.Home.{blocks, position, homeIndex, home}
 use Rattle.volume.specs.Volume.{ibsz, iblb, fmax, slot, slots, header, inUse, mapBlocks, base}
 use Rattle.volume.specs.Opening.{openVolume}
 use Rattle.chains.specs.Chains.{fileBlocks}
-use Rattle.verdict.specs.declared.judging.Judged.{Judged}
-use Rattle.verdict.specs.declared.judging.Judged.the-variants.{Done, Refused}
+use Rattle.verdict.specs.declared.Judged.{Judged}
+use Rattle.verdict.specs.declared.Judged.the-variants.{Done, Refused}
 use Rattle.verdict.specs.Verdict.{claimed, free, verdictAnswer}
 use Rattle.sound.specs.Sound.{BlockOf, Sound}
 

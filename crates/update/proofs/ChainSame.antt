@@ -5,7 +5,8 @@ use Prim.Native.Nat.{ℕ, zero, suc}
 use native.Mathlib.Decide.{ℕ-discrete}
 use Rattle.header.specs.Fields.{mEfnu}
 use Rattle.pointers.specs.Pointers.{blocksOf}
-use Rattle.chains.specs.Chains.{chain, flat}
+use Rattle.chains.specs.Chains.{chain}
+use Rattle.pointers.specs.Pointers.{flat}
 use Rattle.lists.specs.Counts.{In}
 use Rattle.sound.proofs.MemberLaws.{in-here, in-tail, chain-end, chain-more, chain-head, chain-rest}
 

@@ -14,7 +14,8 @@ use Rattle.image.proofs.StoreLaws.{Outside, Keeps, keeps-trans, keeps-weaken}
 use Rattle.home.specs.Home.{blocks}
 use Rattle.volume.specs.Volume.{ibsz, iblb, slot, slots, header, indexMap, inUse, mapBlocks, base, storageMap}
 use Rattle.volume.proofs.VolumeLaws.{slot-below, base-fits}
-use Rattle.chains.specs.Chains.{chainOf, flat, fileBlocks, slotsOf}
+use Rattle.chains.specs.Chains.{chainOf, fileBlocks, slotsOf}
+use Rattle.pointers.specs.Pointers.{flat}
 use Rattle.lists.specs.Counts.{count, In}
 use Rattle.lists.proofs.CountLaws.{count-none, count-find}
 use Rattle.slots.proofs.SlotLaws.{used-range}

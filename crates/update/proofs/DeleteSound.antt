@@ -14,7 +14,8 @@ use Rattle.header.specs.Fields.{segment, mEfnu}
 use Rattle.pointers.specs.Pointers.{blocksOf}
 use Rattle.home.specs.Home.{blocks}
 use Rattle.volume.specs.Volume.{header, faultOf, inUse, storageMap, mapBits}
-use Rattle.chains.specs.Chains.{chainOf, flat}
+use Rattle.chains.specs.Chains.{chainOf}
+use Rattle.pointers.specs.Pointers.{flat}
 use Rattle.lists.specs.Counts.{count, In}
 use Rattle.lists.proofs.CountLaws.{count-none, count-append, count-at, count-find}
 use Rattle.slots.proofs.SlotLaws.{used-range}

@@ -22,8 +22,10 @@ use Rattle.chains.specs.Chains.{chainOf, lastNumber}
 use Rattle.open_file.specs.Opening.{openFile}
 use Rattle.verdict.specs.Verdict.{verdict, afterwards}
 use Rattle.sound.proofs.ExactLaws.{verdict-judges}
-use Rattle.update.specs.Create.{freeNumber, newSequence, createTests, createOutcome, withFile, createImage}
-use Rattle.update.specs.Extend.{isKnownNumber, isFixed, isCount, hasRoom, runStart, hasRun, extendTests, extendOutcome, withBlocks, extendImage}
+use Rattle.spare_number.specs.SpareNumber.{spareNumber, newSequence}
+use Rattle.update.specs.Create.{createTests, createOutcome, withFile, createImage}
+use Rattle.update.specs.Extend.{isKnownNumber, isCount, hasRoom, runStart, hasRun, extendTests, extendOutcome, withBlocks, extendImage}
+use Rattle.header.specs.Flags.{isFixed}
 use Rattle.update.specs.Delete.{deleteTests, deleteOutcome, withoutNumbers, deleteImage}
 use Rattle.update.proofs.Effects.{Good}
 
@@ -37,11 +39,11 @@ module _ (image : List ℕ) (g : Good image) (b h : ℕ) (room : blocks image �
   judged : verdict image b h ≡ Passed
   judged = verdict-judges image b h room rest .holds (opens-all image (g .opens), g .sound)
 
-  pub create-done : (name : Name) → proper name ≡ true → freeNumber image ≤ fmax image → createOutcome image name b h ≡ Passed
+  pub create-done : (name : Name) → proper name ≡ true → spareNumber image ≤ fmax image → createOutcome image name b h ≡ Passed
   unfolding createOutcome createTests
   create-done name named found =
       then-passed (verdict image b h) _ judged ∙ then-passed _ _ (met (proper name) refusal.Name named)
-      ∙ met _ refusal.Nonumber (le-leb (freeNumber image) _ (omega (arith, found)))
+      ∙ met _ refusal.Nonumber (le-leb (spareNumber image) _ (omega (arith, found)))
 
   pub extend-done : (id : FileId) (c : ℕ) → openFile image id ≡ Passed → not (isKnownNumber (id .number)) ≡ true → not (isFixed (header image (id .number))) ≡ true
       → isCount c ≡ true → hasRoom (header image (lastNumber image (id .number))) ≡ true → hasRun image c ≡ true → extendOutcome image id c b h ≡ Passed

@@ -13,7 +13,8 @@ use Rattle.pointers.specs.Pointers.{blocksOf}
 use Rattle.home.specs.Home.{blocks, position, homeIndex}
 use Rattle.volume.specs.Volume.{ibsz, iblb, fmax, slot, slots, header, faultOf, inUse, mapBlocks, base, storageMap, mapBits}
 use Rattle.volume.proofs.VolumeLaws.{Opens}
-use Rattle.chains.specs.Chains.{chainOf, flat, fileBlocks}
+use Rattle.chains.specs.Chains.{chainOf, fileBlocks}
+use Rattle.pointers.specs.Pointers.{flat}
 use Rattle.lists.specs.Counts.{count, In}
 use Rattle.sound.specs.Sound.{BlockOf, Sound}
 

@@ -21,7 +21,8 @@ use Rattle.pointers.specs.Pointers.{blocksOf}
 use Rattle.home.specs.Home.{blocks, position, homeIndex}
 use Rattle.volume.specs.Volume.{ibsz, iblb, fmax, slot, slots, header, faultOf, inUse, indexMap, mapBlocks, base, storageMap}
 use Rattle.volume.proofs.VolumeLaws.{slot-below, header-length, base-fits}
-use Rattle.chains.specs.Chains.{chainOf, flat, fileBlocks}
+use Rattle.chains.specs.Chains.{chainOf, fileBlocks}
+use Rattle.pointers.specs.Pointers.{flat}
 use Rattle.lists.specs.Counts.{count, In}
 use Rattle.lists.proofs.CountLaws.{count-append, count-at, Found, count-find, count-numbers-in, count-numbers-out}
 use Rattle.slots.proofs.SlotLaws.{used-range}

@@ -12,11 +12,12 @@ use Rattle.pointers.specs.Pointers.{blocksOf}
 use Rattle.home.specs.Home.{isHome, blocks, position, positions, homeAt, homeIndex, home}
 use Rattle.header.specs.Fields.{mEfnu}
 use Rattle.volume.specs.Volume.{ibsz, iblb, fmax, indexHeader, places, index, indexEnds, padded, slot, slots, header, inUse, mapBlocks, base, volumeOf, placesOf}
-use Rattle.volume.specs.Opening.{indexMapBlocks}
+use Rattle.volume.specs.Volume.{mapBlocks}
 use Rattle.volume.proofs.IndexSame.{AllKept, places-same, index-kept, ends-kept}
 use Rattle.volume.proofs.VolumeLaws.{Opens, index-file, slot-first, slots-least, storage-size, storage-base}
 use Rattle.chains.proofs.IndexFile.{file-index, index-long, index-slots}
-use Rattle.chains.specs.Chains.{chainOf, flat, fileBlocks}
+use Rattle.chains.specs.Chains.{chainOf, fileBlocks}
+use Rattle.pointers.specs.Pointers.{flat}
 use Rattle.lists.specs.Counts.{In}
 use Rattle.lists.proofs.CountLaws.{count-find, count-at}
 use Rattle.slots.proofs.SlotLaws.{used-range}
@@ -103,7 +104,7 @@ module _ (image : List ℕ) (g : Good image) where
 
   -- The index map has a bit for every number.
   pub numbers-fit : fmax image ≤ 4096 * ibsz image
-  unfolding indexMapBlocks
+  unfolding mapBlocks
   numbers-fit = omega (arith, g .opens .maps)
 
   -- The headers of the index file are in use, and so is each number that one of them leads on to.

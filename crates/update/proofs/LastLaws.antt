@@ -9,7 +9,8 @@ use Rattle.image.specs.Words.{Bytes}
 use Rattle.header.specs.Fields.{segment, mEfnu}
 use Rattle.pointers.specs.Pointers.{blocksOf}
 use Rattle.volume.specs.Volume.{header, inUse}
-use Rattle.chains.specs.Chains.{chain, chainOf, flat, fileBlocks, lastNumber}
+use Rattle.chains.specs.Chains.{chain, chainOf, fileBlocks, lastNumber}
+use Rattle.pointers.specs.Pointers.{flat}
 use Rattle.chains.proofs.NumberLaws.{segment-most}
 use Rattle.lists.specs.Counts.{In}
 use Rattle.lists.proofs.CountLaws.{count-none}

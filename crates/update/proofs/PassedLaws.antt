@@ -20,8 +20,10 @@ use Rattle.open_file.specs.Opening.{openFile}
 use Rattle.open_file.proofs.OpeningLaws.{Opened, opened}
 use Rattle.verdict.specs.Verdict.{verdict}
 use Rattle.sound.specs.Claims.{IsFile}
-use Rattle.update.specs.Create.{isSpare, freeNumber, createTests, createOutcome}
-use Rattle.update.specs.Extend.{isKnownNumber, isFixed, isCount, hasRoom, hasRun, extendTests, extendOutcome}
+use Rattle.spare_number.specs.SpareNumber.{isSpare, spareNumber}
+use Rattle.update.specs.Create.{createTests, createOutcome}
+use Rattle.update.specs.Extend.{isKnownNumber, isCount, hasRoom, hasRun, extendTests, extendOutcome}
+use Rattle.header.specs.Flags.{isFixed}
 use Rattle.chains.specs.Chains.{lastNumber}
 use Rattle.update.specs.Delete.{deleteTests, deleteOutcome}
 
@@ -45,24 +47,24 @@ spare-is image n low t =
     }
 
 -- The lowest that there is, where it is no higher than H.FMAX.
-pub free-spare : (image : List ℕ) (n : ℕ) → n ≡ freeNumber image → n ≤ fmax image → Spare image n
-unfolding freeNumber
+pub free-spare : (image : List ℕ) (n : ℕ) → n ≡ spareNumber image → n ≤ fmax image → Spare image n
+unfolding spareNumber
 free-spare image n e l =
     let f = first-has (isSpare image) 6 (fmax image - 5) in
     spare-is image n (omega (arith, e, f .low)) (ap (isSpare image) e ∙ f .here (omega (arith, e)))
 
 pub record CreatePassed (image : List ℕ) (name : Name) : Type 0 where
   pub named : proper name ≡ true
-  pub high : freeNumber image ≤ fmax image
-  pub spare : Spare image (freeNumber image)
+  pub high : spareNumber image ≤ fmax image
+  pub spare : Spare image (spareNumber image)
 
 pub create-passed : (image : List ℕ) (name : Name) (b h : ℕ) → createOutcome image name b h ≡ Passed → CreatePassed image name
 unfolding createOutcome createTests
 create-passed image name b h e =
     let judged = passed-then (verdict image b h) _ e in
     let named = passed-first (proper name) refusal.Name _ (judged .1) in
-    let high = leb-true (freeNumber image) (fmax image) (passed-last (leb (freeNumber image) (fmax image)) refusal.Nonumber (named .1)) in
-    record { named = named .0; high = high; spare = free-spare image (freeNumber image) refl high }
+    let high = leb-true (spareNumber image) (fmax image) (passed-last (leb (spareNumber image) (fmax image)) refusal.Nonumber (named .1)) in
+    record { named = named .0; high = high; spare = free-spare image (spareNumber image) refl high }
 
 -- A file that opens is a file.
 pub opened-file : (image : List ℕ) (id : FileId) → Opened image id → IsFile image (id .number)

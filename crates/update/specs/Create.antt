@@ -1,9 +1,8 @@
 -- Create: its answer, and the image after it.
-use mathlib.Core.Bool.{Bool, not, _&&_}
 use mathlib.Core.List.{List, [], _∷_}
-use Prim.Native.Nat.{ℕ, _+_, _-_}
-use lib.Dec.{leb, ltb}
-use Rattle.lists.specs.First.{first}
+use Prim.Native.Nat.{ℕ, _-_}
+use lib.Dec.{leb}
+use Rattle.image.specs.Stores.{putBlock, putMapBits}
 use Rattle.answer.specs.declared.types.FileId.{FileId}
 use Rattle.answer.specs.declared.types.Name.{Name}
 use Rattle.answer.specs.declared.refusal.Refusal.the-variants as refusal
@@ -11,31 +10,18 @@ use Rattle.answer.specs.declared.outcome.Outcome.{Outcome}
 use Rattle.answer.specs.declared.outcome.Outcome.the-variants as outcome
 use Rattle.answer.specs.Outcome.{unless, _then_}
 use Rattle.radix50.specs.Names.{proper}
-use Rattle.header.specs.Fields.{hFseq}
-use Rattle.volume.specs.Volume.{ibsz, iblb, fmax, slot, hasSlot, header, inUse}
-use Rattle.verdict.specs.Verdict.{verdict, afterwards}
 use Rattle.fresh_header.specs.Fresh.{freshHeader}
+use Rattle.volume.specs.Volume.{ibsz, iblb, fmax, slot}
+use Rattle.verdict.specs.Verdict.{verdict, afterwards}
 use Rattle.update.specs.declared.answers.Created.{Created}
 use Rattle.update.specs.declared.answers.Created.the-variants.{Done, Refused}
-use Rattle.image.specs.Stores.{putBlock, putMapBits}
 use Rattle.update.specs.Writes.{usedBit}
-
--- 01, Create: "with bit clear, a slot, and word at byte 4 of the slot below 65,535". That word is H.FSEQ.
-unfoldable pub isSpare : List ℕ → ℕ → Bool
-isSpare image n = not (inUse image n) && hasSlot image n && ltb (hFseq (header image n)) 65535
-
--- 01, Create: "the lowest n from 6 to H.FMAX with ..". H.FMAX + 1 where there is none.
-unfoldable pub freeNumber : List ℕ → ℕ
-freeNumber image = first (isSpare image) 6 (fmax image - 5)
-
--- 01, Create: "The sequence is that word plus 1."
-unfoldable pub newSequence : List ℕ → ℕ → ℕ
-newSequence image n = hFseq (header image n) + 1
+use Rattle.spare_number.specs.SpareNumber.{newSequence, spareNumber}
 
 -- 01, Answer numbers: "then by number", of which create has "14 NAME | not proper" and "27 NONUMBER | create finds no n". What create asks of a volume
 -- that is judged.
 unfoldable pub createTests : List ℕ → Name → Outcome
-createTests image name = unless (proper name) refusal.Name then unless (leb (freeNumber image) (fmax image)) refusal.Nonumber
+createTests image name = unless (proper name) refusal.Name then unless (leb (spareNumber image) (fmax image)) refusal.Nonumber
 
 -- 01, Answer numbers: "1 to 5; 16; 17 to 21 where judged", and then these. The work areas have lengths b and h.
 unfoldable pub createOutcome : List ℕ → Name → ℕ → ℕ → Outcome
@@ -43,7 +29,7 @@ createOutcome image name b h = verdict image b h then createTests image name
 
 -- 01, Create: "Answer: the ID." Its third word is 0. 01, Volume V: "Create gives 7,1,0."
 unfoldable pub newId : List ℕ → FileId
-newId image = record { number = freeNumber image; sequence = newSequence image (freeNumber image); volume = 0 }
+newId image = record { number = spareNumber image; sequence = newSequence image (spareNumber image); volume = 0 }
 
 unfoldable pub created : Outcome → FileId → Created
 created outcome.Passed id = Done id
@@ -64,7 +50,7 @@ withNumber image n h = putMapBits (putBlock image (slot image n) h) (iblb image)
 -- 01, Create: "Header: .." and "The index bit is set."
 unfoldable pub withFile : List ℕ → Name → ℕ → ℕ → List ℕ
 withFile image name owner protection =
-    withNumber image (freeNumber image) (freshHeader (freeNumber image) (newSequence image (freeNumber image)) owner protection name)
+    withNumber image (spareNumber image) (freshHeader (spareNumber image) (newSequence image (spareNumber image)) owner protection name)
 
 -- The image after create. 00, 1: "A refused call changes no byte of the image".
 unfoldable pub createImage : List ℕ → Name → ℕ → ℕ → ℕ → ℕ → List ℕ

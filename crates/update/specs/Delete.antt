@@ -12,7 +12,8 @@ use Rattle.answer.specs.Outcome.{unless, _then_}
 use Rattle.header_edit.specs.Cleared.{clearedSlot}
 use Rattle.home.specs.Home.{blocks}
 use Rattle.volume.specs.Volume.{ibsz, iblb, header, mapBlocks, base}
-use Rattle.chains.specs.Chains.{chainOf, flat, slotsOf}
+use Rattle.chains.specs.Chains.{chainOf, slotsOf}
+use Rattle.pointers.specs.Pointers.{flat}
 use Rattle.open_file.specs.Opening.{openFile}
 use Rattle.verdict.specs.Verdict.{verdict, afterwards}
 use Rattle.update.specs.declared.answers.Deleted.{Deleted}

@@ -10,13 +10,14 @@ use Rattle.answer.specs.declared.refusal.Refusal.the-variants as refusal
 use Rattle.answer.specs.declared.outcome.Outcome.{Outcome}
 use Rattle.answer.specs.declared.outcome.Outcome.the-variants as outcome
 use Rattle.answer.specs.Outcome.{unless, _then_}
-use Rattle.header.specs.Fields.{userFlags, mUse, mMax}
+use Rattle.header.specs.Fields.{mUse, mMax}
+use Rattle.header.specs.Flags.{isFixed}
 use Rattle.header_edit.specs.Extended.{extendedHeader}
 use Rattle.home.specs.Home.{blocks}
 use Rattle.volume.specs.Volume.{slot, header, mapBlocks, base, storageMap}
 use Rattle.runs.specs.Runs.{starts, lowestStart}
 use Rattle.chains.specs.Chains.{lastNumber}
-use Rattle.open_file.specs.Opening.{hasFlag, openFile}
+use Rattle.open_file.specs.Opening.{openFile}
 use Rattle.verdict.specs.Verdict.{verdict, afterwards}
 use Rattle.update.specs.declared.answers.Extended.{Extended}
 use Rattle.update.specs.declared.answers.Extended.the-variants.{Done, Refused}
@@ -25,10 +26,6 @@ use Rattle.update.specs.Writes.{takenBit}
 -- 01, Answer numbers: "22 KNOWN | extend or delete of 1 to 5".
 unfoldable pub isKnownNumber : ℕ → Bool
 isKnownNumber n = leb n 5
-
--- 01, Answer numbers: "23 FIXED | extend with user flag 128 (contiguous)".
-unfoldable pub isFixed : List ℕ → Bool
-isFixed h = hasFlag (userFlags h) 128
 
 -- 01, Extend: "by c, 1 to 256".
 unfoldable pub isCount : ℕ → Bool

@@ -18,9 +18,9 @@ use Rattle.files.specs.Files.{files}
 use Rattle.links.specs.Links.{linked, links}
 use Rattle.covers.specs.Covered.{covered, twice, map}
 use Rattle.bad_home.specs.Homes.{badHome}
-use Rattle.verdict.specs.declared.judging.Counts.{Counts}
-use Rattle.verdict.specs.declared.judging.Judged.{Judged}
-use Rattle.verdict.specs.declared.judging.Judged.the-variants.{Done, Refused}
+use Rattle.verdict.specs.declared.Counts.{Counts}
+use Rattle.verdict.specs.declared.Judged.{Judged}
+use Rattle.verdict.specs.declared.Judged.the-variants.{Done, Refused}
 
 -- 01, The verdict: "Two lent work areas, N and H.FMAX bytes or more." Areas of these lengths are long enough.
 unfoldable pub roomy : List ℕ → ℕ → ℕ → Bool

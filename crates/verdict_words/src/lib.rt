@@ -1,7 +1,7 @@
 // The answer words of the verdict: its answer as the twelve words that an exported call writes.
 use answer::words::put_done;
 use answer::words::put_refused;
-use verdict::judging::Judged;
+use verdict::Judged;
 ghost use mathlib.Core.Path.{_≡_};
 ghost use Rattle.verdict_words.specs.Words.{judgedWords};
 

@@ -24,7 +24,8 @@ use Rattle.whole.specs.Whole.{fault}
 use Rattle.pointers.proofs.PointerLaws.{place-at, place-past, runs-none, runs-length}
 use Rattle.whole.proofs.WholeLaws.{whole-fits, whole-inside}
 use Rattle.home.specs.Home.{blocks}
-use Rattle.volume.specs.Volume.{ibsz, iblb, fmax, indexMap, inUse, indexHeader, partSlot, partSlots, follows, leadsOn, placesFrom, places, mappedBy, index, indexEnds, padded}
+use Rattle.volume.specs.Volume.{ibsz, iblb, fmax, indexMap, inUse, indexHeader, partSlot, partSlots, follows, leadsOn, placesFrom, places, index, indexEnds, padded}
+use Rattle.pointers.specs.Pointers.{flat}
 
 -- A place in two lists of LBNs, one after the other, by where it lies in the first.
 module _ (a b : List ℕ) (i : ℕ) where
@@ -66,35 +67,35 @@ blocksOf-most h bytes = omega (arith, runs-most h (pointersAt h) (pointers h) by
 
 module _ (image : List ℕ) where
   -- The blocks that headers map, one header after the other.
-  pub mapped-none : mappedBy image [] ≡ []
-  unfolding mappedBy
+  pub mapped-none : flat (block image) [] ≡ []
+  unfolding flat
   mapped-none = refl
 
-  pub mapped-more : (at : ℕ) (on : List ℕ) → mappedBy image (at ∷ on) ≡ blocksOf (block image at) ++ mappedBy image on
-  unfolding mappedBy
+  pub mapped-more : (at : ℕ) (on : List ℕ) → flat (block image) (at ∷ on) ≡ blocksOf (block image at) ++ flat (block image) on
+  unfolding flat
   mapped-more at on = refl
 
-  pub mapped-append : (a b : List ℕ) → mappedBy image (a ++ b) ≡ mappedBy image a ++ mappedBy image b
-  unfolding mappedBy
+  pub mapped-append : (a b : List ℕ) → flat (block image) (a ++ b) ≡ flat (block image) a ++ flat (block image) b
+  unfolding flat
   mapped-append [] b = refl
   mapped-append (at ∷ a) b =
-      ap (λ (l : List ℕ). blocksOf (block image at) ++ l) (mapped-append a b) ∙ sym (append-assoc (blocksOf (block image at)) (mappedBy image a) (mappedBy image b))
+      ap (λ (l : List ℕ). blocksOf (block image at) ++ l) (mapped-append a b) ∙ sym (append-assoc (blocksOf (block image at)) (flat (block image) a) (flat (block image) b))
 
-  pub mapped-last : (a : List ℕ) (at : ℕ) → mappedBy image (a ++ (at ∷ [])) ≡ mappedBy image a ++ blocksOf (block image at)
+  pub mapped-last : (a : List ℕ) (at : ℕ) → flat (block image) (a ++ (at ∷ [])) ≡ flat (block image) a ++ blocksOf (block image at)
   mapped-last a at =
-      mapped-append a (at ∷ []) ∙ ap (λ (l : List ℕ). mappedBy image a ++ l) (mapped-more at [] ∙ rw mapped-none (append-nil (blocksOf (block image at))))
+      mapped-append a (at ∷ []) ∙ ap (λ (l : List ℕ). flat (block image) a ++ l) (mapped-more at [] ∙ rw mapped-none (append-nil (blocksOf (block image at))))
 
-  pub mapped-drop : (l : List ℕ) (j : ℕ) → j < length l → mappedBy image (drop j l) ≡ blocksOf (block image (getD l j 0)) ++ mappedBy image (drop (j + 1) l)
-  mapped-drop l j h = rw (add-one j) (ap (mappedBy image) (drop-cons l j 0 h) ∙ mapped-more (getD l j 0) (drop (suc j) l))
+  pub mapped-drop : (l : List ℕ) (j : ℕ) → j < length l → flat (block image) (drop j l) ≡ blocksOf (block image (getD l j 0)) ++ flat (block image) (drop (j + 1) l)
+  mapped-drop l j h = rw (add-one j) (ap (flat (block image)) (drop-cons l j 0 h) ∙ mapped-more (getD l j 0) (drop (suc j) l))
 
-  pub mapped-past : (l : List ℕ) (j : ℕ) → length l ≤ j → mappedBy image (drop j l) ≡ []
+  pub mapped-past : (l : List ℕ) (j : ℕ) → length l ≤ j → flat (block image) (drop j l) ≡ []
   mapped-past l j h = rw (drop-of-length-le l {i = j} h) mapped-none
 
-  pub mapped-most : Bytes image → (l : List ℕ) → length (mappedBy image l) ≤ 32512 * length l
-  unfolding mappedBy
+  pub mapped-most : Bytes image → (l : List ℕ) → length (flat (block image) l) ≤ 32512 * length l
+  unfolding flat
   mapped-most bytes [] = omega arith
   mapped-most bytes (at ∷ l) =
-      omega (arith, length-append (blocksOf (block image at)) (mappedBy image l), mapped-most bytes l, blocksOf-most (block image at) (block-bytes image at bytes))
+      omega (arith, length-append (blocksOf (block image at)) (flat (block image) l), mapped-most bytes l, blocksOf-most (block image at) (block-bytes image at bytes))
 
   -- One header more, whatever follows it.
   pub from-first : (f : ℕ) (part : List ℕ) (at : ℕ) → placesFrom image (f + 1) part at
@@ -229,11 +230,11 @@ module _ (image : List ℕ) where
   pub lies-inside : (at : ℕ) → Lies at → Inside (blocksOf (block image at))
   lies-inside at l = whole-inside (blocks image) (l .number) (block image at) (l .whole)
 
-  pub mapped-inside : (ls : List ℕ) → AllLie ls → Inside (mappedBy image ls)
-  unfolding mappedBy
+  pub mapped-inside : (ls : List ℕ) → AllLie ls → Inside (flat (block image) ls)
+  unfolding flat
   mapped-inside [] all i l = absurd (omega arith)
   mapped-inside (at ∷ ls) all i l =
-      inside-append (blocksOf (block image at)) (mappedBy image ls) (lies-inside at (all 0 (omega arith))) (mapped-inside ls (λ j h. all (suc j) (omega arith))) i l
+      inside-append (blocksOf (block image at)) (flat (block image) ls) (lies-inside at (all 0 (omega arith))) (mapped-inside ls (λ j h. all (suc j) (omega arith))) i l
 
   -- What is led to lies in the part.
   pub leads-lies : (part h : List ℕ) → Inside part → leadsOn image part h ≡ true → Lies (partSlot (ibsz image) part (mEfnu h))
@@ -283,21 +284,21 @@ module _ (image : List ℕ) where
   -- The first segment's blocks come first.
   abbrev pub further : List ℕ
   further =
-      mappedBy image (cond (leadsOn image ([] ++ blocksOf (indexHeader image)) (indexHeader image))
+      flat (block image) (cond (leadsOn image ([] ++ blocksOf (indexHeader image)) (indexHeader image))
       (placesFrom image 255 ([] ++ blocksOf (indexHeader image)) (partSlot (ibsz image) ([] ++ blocksOf (indexHeader image)) (mEfnu (indexHeader image)))) [])
 
   pub index-split : index image ≡ blocksOf (indexHeader image) ++ further
   unfolding index places indexHeader
-  index-split = ap (mappedBy image) (from-first 255 [] (iblb image + ibsz image)) ∙ mapped-more (iblb image + ibsz image) _
+  index-split = ap (flat (block image)) (from-first 255 [] (iblb image + ibsz image)) ∙ mapped-more (iblb image + ibsz image) _
 
   -- One header has all the blocks.
   pub index-alone : length (places image) ≡ 1 → index image ≡ blocksOf (indexHeader image)
   unfolding index places indexHeader
   index-alone e =
-      ap (mappedBy image) (from-first 255 [] (iblb image + ibsz image))
+      ap (flat (block image)) (from-first 255 [] (iblb image + ibsz image))
       ∙ only (iblb image + ibsz image) _ (sym (ap length (from-first 255 [] (iblb image + ibsz image))) ∙ e)
     where
-      only : (at : ℕ) (rest : List ℕ) → suc (length rest) ≡ 1 → mappedBy image (at ∷ rest) ≡ blocksOf (block image at)
+      only : (at : ℕ) (rest : List ℕ) → suc (length rest) ≡ 1 → flat (block image) (at ∷ rest) ≡ blocksOf (block image at)
       only at [] f = mapped-more at [] ∙ rw mapped-none (append-nil (blocksOf (block image at)))
       only at (x ∷ rest) f = absurd (omega arith)
 
@@ -308,14 +309,14 @@ module _ (image : List ℕ) where
 
 -- The headers looked through so far, and the one at hand.
 module _ (image ls : List ℕ) (k : ℕ) (inside : k < length ls) where
-  pub mapped-step : mappedBy image (take (k + 1) ls) ≡ mappedBy image (take k ls) ++ blocksOf (block image (getD ls k 0))
+  pub mapped-step : flat (block image) (take (k + 1) ls) ≡ flat (block image) (take k ls) ++ blocksOf (block image (getD ls k 0))
   mapped-step = rw (add-one k, take-suc ls k 0 inside) (mapped-last image (take k ls) (getD ls k 0))
 
-  pub mapped-here : mappedBy image ls ≡ mappedBy image (take k ls) ++ (blocksOf (block image (getD ls k 0)) ++ mappedBy image (drop (k + 1) ls))
+  pub mapped-here : flat (block image) ls ≡ flat (block image) (take k ls) ++ (blocksOf (block image (getD ls k 0)) ++ flat (block image) (drop (k + 1) ls))
   mapped-here =
-      ap (mappedBy image) (sym (take-append-drop k ls))
+      ap (flat (block image)) (sym (take-append-drop k ls))
       ∙ mapped-append image (take k ls) (drop k ls)
-      ∙ ap (λ (l : List ℕ). mappedBy image (take k ls) ++ l) (mapped-drop image ls k inside)
+      ∙ ap (λ (l : List ℕ). flat (block image) (take k ls) ++ l) (mapped-drop image ls k inside)
 
 -- The places as the volume record keeps them.
 module _ (ls : List ℕ) where

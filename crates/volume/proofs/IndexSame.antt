@@ -11,7 +11,8 @@ use Rattle.image.specs.Blocks.{block}
 use Rattle.header.specs.Fields.{mEfnu}
 use Rattle.pointers.specs.Pointers.{blocksOf}
 use Rattle.home.specs.Home.{blocks}
-use Rattle.volume.specs.Volume.{ibsz, iblb, inUse, partSlot, leadsOn, placesFrom, places, mappedBy, index, indexEnds}
+use Rattle.volume.specs.Volume.{ibsz, iblb, inUse, partSlot, leadsOn, placesFrom, places, index, indexEnds}
+use Rattle.pointers.specs.Pointers.{flat}
 use Rattle.volume.proofs.IndexLaws.{mapped-none, mapped-more, from-first, from-end, from-more, from-none, from-last, leads, leads-none, used-low}
 
 module _ (image image′ : List ℕ) (n-same : blocks image′ ≡ blocks image) (m-same : ibsz image′ ≡ ibsz image) where
@@ -26,7 +27,7 @@ module _ (image image′ : List ℕ) (n-same : blocks image′ ≡ blocks image)
   abbrev Ends : List ℕ → Type 0
   Ends ls = mEfnu (block image (getD ls (length ls - 1) 0)) ≡ 0
 
-  mapped-kept : (ls : List ℕ) → AllKept ls → mappedBy image′ ls ≡ mappedBy image ls
+  mapped-kept : (ls : List ℕ) → AllKept ls → flat (block image′) ls ≡ flat (block image) ls
   mapped-kept [] all = mapped-none image′ ∙ sym (mapped-none image)
   mapped-kept (at ∷ ls) all =
       mapped-more image′ at ls
@@ -110,7 +111,7 @@ module _ (image image′ : List ℕ) (n-same : blocks image′ ≡ blocks image)
 
   pub index-kept : iblb image′ ≡ iblb image → AllKept (places image) → indexEnds image ≡ true → index image′ ≡ index image
   unfolding index
-  index-kept b-same all ends = ap (mappedBy image′) (places-same b-same all ends) ∙ mapped-kept (places image) all
+  index-kept b-same all ends = ap (flat (block image′)) (places-same b-same all ends) ∙ mapped-kept (places image) all
 
   places-some : 1 ≤ length (places image)
   unfolding places

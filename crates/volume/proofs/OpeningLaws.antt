@@ -21,7 +21,8 @@ use Rattle.pointers.proofs.PointerLaws.{runs-none, runs-length, runs-at}
 use Rattle.home.specs.Home.{blocks, positions, homeIndex, home}
 use Rattle.home.proofs.HomeLaws.{position-below}
 use Rattle.volume.specs.Volume.{ibsz, iblb, fmax}
-use Rattle.volume.specs.Opening.{sized, homed, indexMapBlocks, geometry, indexLbn, indexAt, indexMapped, indexed, storageMapped, stored, openVolume}
+use Rattle.volume.specs.Opening.{sized, homed, geometry, indexLbn, indexAt, indexMapped, indexed, storageMapped, stored, openVolume}
+use Rattle.volume.specs.Volume.{mapBlocks}
 
 -- Three tests in a row.
 pub three : (a b c : Bool) → (a && b && c) ≡ true → (a ≡ true) × (b ≡ true) × (c ≡ true)
@@ -39,11 +40,11 @@ module _ (image : List ℕ) where
       let r = three (eqb (length image) (512 * n)) (leb 100 n) (leb n 1044480) t in
       (eqb-true (length image) (512 * n) (r .0), leb-true 100 n (r .1), leb-true n 1044480 (r .2))
 
-  pub geometry-is : geometry image ≡ true → (16 ≤ fmax image) × (ibsz image ≡ indexMapBlocks (fmax image)) × (iblb image + ibsz image + 16 ≤ blocks image)
+  pub geometry-is : geometry image ≡ true → (16 ≤ fmax image) × (ibsz image ≡ mapBlocks (fmax image)) × (iblb image + ibsz image + 16 ≤ blocks image)
   unfolding geometry
   geometry-is t =
-      let r = three (leb 16 (fmax image)) (eqb (ibsz image) (indexMapBlocks (fmax image))) (leb (iblb image + ibsz image + 16) (blocks image)) t in
-      (leb-true 16 (fmax image) (r .0), eqb-true (ibsz image) (indexMapBlocks (fmax image)) (r .1), leb-true (iblb image + ibsz image + 16) (blocks image) (r .2))
+      let r = three (leb 16 (fmax image)) (eqb (ibsz image) (mapBlocks (fmax image))) (leb (iblb image + ibsz image + 16) (blocks image)) t in
+      (leb-true 16 (fmax image) (r .0), eqb-true (ibsz image) (mapBlocks (fmax image)) (r .1), leb-true (iblb image + ibsz image + 16) (blocks image) (r .2))
 
   -- The home lies on the volume.
   pub home-inside : 100 ≤ blocks image → homeIndex image < positions (blocks image) → home image < blocks image

@@ -31,7 +31,8 @@ use Rattle.volume.specs.Volume.{ibsz, iblb, fmax, indexHeader, places, i
 use Rattle.volume.specs.declared.Volume.{Volume}
 use Rattle.volume.specs.declared.Slot.{Slot}
 use Rattle.volume.specs.declared.Slot.the-variants.{At, Missing}
-use Rattle.volume.specs.Opening.{sized, homed, indexMapBlocks, geometry, heads, alone, indexLbn, indexAt, indexMapped, indexed, storageMapped, stored, openVolume, Mapped, FirstFit, Recorded, Laid}
+use Rattle.volume.specs.Opening.{sized, homed, geometry, heads, alone, indexLbn, indexAt, indexMapped, indexed, storageMapped, stored, openVolume, Mapped, FirstFit, Recorded, Laid}
+use Rattle.volume.specs.Volume.{mapBlocks}
 use Rattle.volume.proofs.IndexLaws.{AllLie, lies-fits, mapped-inside, places-lie, places-least, places-most, further, index-split, index-most, padded-take, padded-length}
 use Rattle.volume.proofs.OpeningLaws.{open-passed, three, sized-is, geometry-is, home-inside, indexLbn-boot, indexLbn-home, indexLbn-row, storage-long, storage-row}
 
@@ -62,7 +63,7 @@ pub record Opens (image : List ℕ) : Type 0 where
   pub most : blocks image ≤ 1044480
   pub found : homeIndex image < positions (blocks image)
   pub enough : 16 ≤ fmax image
-  pub maps : ibsz image ≡ indexMapBlocks (fmax image)
+  pub maps : ibsz image ≡ mapBlocks (fmax image)
   pub fits : iblb image + ibsz image + 16 ≤ blocks image
   pub index-header : Heads (blocks image) 1 (indexHeader image)
   pub index-first : Index (home image) (iblb image) (ibsz image) (blocksOf (indexHeader image))
@@ -195,7 +196,7 @@ opens-all image o =
     open-passed image
     (rw (eq-eqb (length image) (512 * n) (o .size), le-leb 100 n (o .least), le-leb n 1044480 (o .most)))
     (lt-ltb (homeIndex image) (positions n) (o .found))
-    (rw (le-leb 16 (fmax image) (o .enough), eq-eqb (ibsz image) (indexMapBlocks (fmax image)) (o .maps), le-leb (iblb image + ibsz image + 16) n (o .fits)))
+    (rw (le-leb 16 (fmax image) (o .enough), eq-eqb (ibsz image) (mapBlocks (fmax image)) (o .maps), le-leb (iblb image + ibsz image + 16) n (o .fits)))
     (rw (heads-holds n 1 (indexHeader image) (o .index-header), index-holds (home image) (iblb image) (ibsz image) (blocksOf (indexHeader image)) (o .index-first)) (o .index-ends))
     (rw (alone-holds n 2 (header image 2) (o .storage-header), o .shape) (eq-eqb (byteAt (block image (getD (blocksOf (header image 2)) 0 0)) 3) (mapBlocks n) (o .control)))
 
@@ -229,7 +230,7 @@ module _ (image : List ℕ) (v : Volume) (l : Laid image v) where
   laid-indexed = refl
 
   pub laid-mapped : sized image ≡ true → geometry image ≡ true → Mapped image
-  unfolding indexMapBlocks
+  unfolding mapBlocks
   laid-mapped s g = (omega (arith, geometry-is image g), omega (arith, geometry-is image g, sized-is image s))
 
   pub laid-header2 : indexed image ≡ true → block image (v .iblb + v .ibsz + 1) ≡ header image 2
@@ -310,7 +311,7 @@ module _ {image : List ℕ} (o : Opens image) where
   storageMap-length = region-length image (base image) (mapBlocks (blocks image)) (omega (arith, o .size, base-fits))
 
   pub opens-mapped : Mapped image
-  unfolding indexMapBlocks
+  unfolding mapBlocks
   opens-mapped = (omega (arith, o .maps), omega (arith, o .size, o .fits))
 
   pub indexMap-length : length (indexMap image) ≡ 512 * ibsz image

@@ -2,7 +2,7 @@
 use mathlib.Core.Path.{_≡_}
 use mathlib.Core.Bool.{Bool, true, cond, not, _&&_, _||_}
 use mathlib.Core.List.{List}
-use Prim.Native.Nat.{ℕ, _+_, _*_, _-_, _/_, _≤_, _<_}
+use Prim.Native.Nat.{ℕ, _+_, _*_, _-_, _≤_, _<_}
 use lib.Dec.{eqb, leb, ltb}
 use lib.ListN.{length, getD}
 use Rattle.lists.specs.First.{below}
@@ -27,13 +27,9 @@ sized image = eqb (length image) (512 * blocks image) && leb 100 (blocks image) 
 unfoldable pub homed : List ℕ → Bool
 homed image = ltb (homeIndex image) (positions (blocks image))
 
--- 01, Geometry: "m = H.IBSZ = H.FMAX/4096 rounded up".
-unfoldable pub indexMapBlocks : ℕ → ℕ
-indexMapBlocks n = (n + 4095) / 4096
-
 -- 01, Geometry: "H.FMAX at least 16; m = H.IBSZ = H.FMAX/4096 rounded up; H.IBLB + m + 16 ≤ N."
 unfoldable pub geometry : List ℕ → Bool
-geometry image = leb 16 (fmax image) && eqb (ibsz image) (indexMapBlocks (fmax image)) && leb (iblb image + ibsz image + 16) (blocks image)
+geometry image = leb 16 (fmax image) && eqb (ibsz image) (mapBlocks (fmax image)) && leb (iblb image + ibsz image + 16) (blocks image)
 
 -- 01, Index file and Storage map file: "whole, ID 1,1, segment 0"; "whole, ID 2,2, segment 0". Header h is so for number n.
 unfoldable pub heads : ℕ → ℕ → List ℕ → Bool

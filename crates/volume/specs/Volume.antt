@@ -9,7 +9,7 @@ use Rattle.image.specs.Blocks.{region, block}
 use Rattle.image.specs.Bits.{bitAt}
 use Rattle.image.specs.Stores.{zeros}
 use Rattle.header.specs.Fields.{hFseq, segment, mEfnu, mEfsq}
-use Rattle.pointers.specs.Pointers.{blocksOf}
+use Rattle.pointers.specs.Pointers.{blocksOf, flat}
 use Rattle.whole.specs.Whole.{fault}
 use Rattle.home.specs.Home.{hIbsz, hIblb, hFmax, blocks, home}
 use Rattle.volume.specs.declared.Volume.{Volume}
@@ -71,14 +71,9 @@ placesFrom image (suc f) part at =
 unfoldable pub places : List ℕ → List ℕ
 places image = placesFrom image 256 [] (iblb image + ibsz image)
 
--- The LBNs that the headers at these places map, in order.
-unfoldable pub mappedBy : List ℕ → List ℕ → List ℕ
-mappedBy image [] = []
-mappedBy image (at ∷ on) = blocksOf (block image at) ++ mappedBy image on
-
 -- The blocks of the index file, in the order of their VBNs. 02, 9/14: "Slots, verdict and all calls read the long map."
 unfoldable pub index : List ℕ → List ℕ
-index image = mappedBy image (places image)
+index image = flat (block image) (places image)
 
 -- 02, 9/14: "INDEX also for a bad link or a slot not yet mapped". The last header that is led to has no further one, so no link is bad.
 unfoldable pub indexEnds : List ℕ → Bool
@@ -111,7 +106,7 @@ faultOf image n = fault (blocks image) n (header image n)
 unfoldable pub isNumber : List ℕ → ℕ → Bool
 isNumber image n = inUse image n && hasSlot image n
 
--- 01, Storage map file: "q = N/4096 rounded up".
+-- How many blocks a map of n bits has. 01, Storage map file: "q = N/4096 rounded up"; Geometry: "m = H.IBSZ = H.FMAX/4096 rounded up".
 unfoldable pub mapBlocks : ℕ → ℕ
 mapBlocks n = (n + 4095) / 4096
 

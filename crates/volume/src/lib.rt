@@ -16,9 +16,11 @@ ghost use Prim.Native.Nat.{_≤_};
 ghost use lib.ListN.{length, take};
 ghost use mathlib.Core.Bool.{true};
 ghost use Rattle.header.specs.Fields.{mEfnu};
+ghost use Rattle.image.specs.Blocks.{block};
 ghost use Rattle.pointers.specs.Pointers.{placeIn};
 ghost use Rattle.home.specs.Home.{blocks};
-ghost use Rattle.volume.specs.Volume.{follows, mappedBy, index, ibsz, iblb, fmax, slot, hasSlot, slotOf, inUse, mapBlocks};
+ghost use Rattle.volume.specs.Volume.{follows, index, ibsz, iblb, fmax, slot, hasSlot, slotOf, inUse, mapBlocks};
+ghost use Rattle.pointers.specs.Pointers.{flat};
 ghost use Rattle.volume.specs.Opening.{FirstFit, Recorded, Mapped, Open};
 
 // Whether `next` is the header that header h links to by M.EFNU, which is n: its sequence, a segment number one higher, and whole.
@@ -41,7 +43,7 @@ pub fn is_next(h: &[u8], next: &[u8], blocks: u32, n: u32) -> bool
 // Where a place, from 0, lies in the blocks of the first k of the headers at these LBNs.
 pub fn place_among(image: &[u8], at: &Places, k: usize, i: u32) -> Place
     requires { ⌜ (length (now at) ≡ 256) × (k ≤ 256) × FirstFit (now image) (now at) k ⌝ }
-    ensures { λ r. ⌜ r ≡ placeIn (mappedBy (now (image .entry)) (take k (now (at .entry)))) i ⌝ }
+    ensures { λ r. ⌜ r ≡ placeIn (flat (block (now (image .entry))) (take k (now (at .entry)))) i ⌝ }
 {
     let mut left = i;
     let mut j: usize = 0;

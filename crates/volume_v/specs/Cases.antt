@@ -9,7 +9,7 @@ use Rattle.answer.specs.declared.types.FileId.{FileId}
 use Rattle.radix50.specs.declared.words.Characters.the-variants.{Done, Refused}
 use Rattle.radix50.specs.Words.{charactersOf}
 use Rattle.parse.specs.Parse.{partWord}
-use Rattle.volume.specs.Opening.{indexMapBlocks}
+use Rattle.volume.specs.Volume.{mapBlocks}
 use Rattle.mapping.specs.declared.Mapped.the-variants as mapped
 use Rattle.mapping.specs.Mapping.{mapAnswer}
 use Rattle.update.specs.declared.answers.Extended.the-variants as extended
@@ -44,8 +44,8 @@ pub record Cases : Type 0 where
   -- "words 65535, 2, rest 0 sum to 1 (P)"
   pub sum : checksum twoWords 255 ≡ 1
   -- "H.FMAX 4096 gives m 1, 4097 gives 2 (P)"
-  pub fmax-4096 : indexMapBlocks 4096 ≡ 1
-  pub fmax-4097 : indexMapBlocks 4097 ≡ 2
+  pub fmax-4096 : mapBlocks 4096 ≡ 1
+  pub fmax-4097 : mapBlocks 4097 ≡ 2
   -- "6,9 VBN 2 is LBN 31 (P)"
   pub vbn-2 : mapAnswer volumeV file6 2 ≡ mapped.Done (record { 0 = 31 })
   -- "VBN 3 is 25 (P)"

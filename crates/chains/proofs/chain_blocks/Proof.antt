@@ -7,8 +7,9 @@ use denote.Ref.{now}
 use Rattle.image.specs.Words.{Bytes}
 use Rattle.header.specs.Fields.{segment, mEfnu}
 use Rattle.volume.specs.Volume.{header}
-use Rattle.chains.proofs.NumberLaws.{number-fits, segment-most}
-use Rattle.chains.proofs.LinkLaws.{LeadsTo, good-links, link-leads}
+use Rattle.chains.specs.Chains.{NextHeader}
+use Rattle.chains.proofs.NumberLaws.{number-fits}
+use Rattle.chains.proofs.LinkLaws.{LeadsTo, link-leads, leads-next}
 use Rattle.chains.proofs.SizeLaws.{file-most}
 use Rattle.chains.proofs.ChainLaws.{Walk, walk-start, walk-same, walk-inside, walk-bad, walk-end-good, walk-end-length, walk-next, blocks-good, blocks-bad}
 use Rattle.chains.proofs.chain_blocks.Statement.{statement}
@@ -36,17 +37,12 @@ leads c =
     let l = c .before .before .before .before .before .before in
     link-leads (now (l .before .before .before .args .image)) (now (l .loop .h)) _ (sym (c .before .before .follow .ensures) ∙ c .link .given .1)
 
--- The next header's segment number is one higher, and a byte.
 next : (c : tie.After-block2 Inv-loop μ-loop)
     → let l = c .before .before .before .before .before .before .before .before in
-    (segment (now (c .block2 .result)) ≡ segment (now (l .loop .h)) + 1) × (segment (now (c .block2 .result)) ≤ 255)
+    NextHeader (now (l .before .before .before .args .image)) (now (l .loop .h)) (now (c .block2 .result))
 next c =
-    let l = c .before .before .before .before .before .before .before .before in
-    let k = l .before .before in
-    let e = c .block2 .ensures ∙ leads (c .before .before) .next in
-    let image = now (k .before .args .image) in
-    let g = leads (c .before .before) in
-    (ap segment e ∙ good-links image (now (l .loop .h)) (g .some) (g .good) .next, rw e (segment-most image (mEfnu (now (l .loop .h))) (bytes k)))
+    let k = c .before .before .before .before .before .before .before .before .before .before in
+    rw (c .block2 .ensures) (leads-next _ _ _ (bytes k) (leads (c .before .before)))
 
 loop-holds : tie.Need-loop-holds Inv-loop μ-loop
 loop-holds c n w = walk-same _ _ _ _ _ w (omega arith)
@@ -88,16 +84,13 @@ returns-2 c =
     sym (blocks-good image n _ (walk-end-good image n h (l .loop .count) (at l) e) (omega (arith, walk-end-length image n h (l .loop .count) (at l) e)))
 
 loop-less : tie.Need-loop-less Inv-loop μ-loop
-loop-less c = omega (arith, next c)
+loop-less c = omega (arith, next c .higher, next c .low)
 
 loop-again : tie.Need-loop-again Inv-loop μ-loop
 loop-again c n w =
     let b = c .before .before .before .before .before .before .before in
     let l = b .before in
-    let k = l .before .before in
-    let g = leads (c .before .before) in
-    rw (c .block2 .ensures ∙ g .next)
-    (walk-same _ _ _ _ _ (walk-next (now (k .before .args .image)) n (now (l .loop .h)) (l .loop .count) (l .loop .inv n w) (bytes k) (g .some) (g .good)) (omega (arith, b .block-count .ensures)))
+    walk-same _ _ _ _ _ (walk-next (now (l .before .before .before .args .image)) n (now (l .loop .h)) (l .loop .count) (l .loop .inv n w) _ (next c)) (omega (arith, b .block-count .ensures))
 
 returns-3 : tie.Need-returns-3 Inv-loop μ-loop
 returns-3 c =

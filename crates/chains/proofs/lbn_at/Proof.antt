@@ -6,13 +6,11 @@ use native.Mathlib.Omega.{arith}
 use denote.Ref.{now}
 use lib.ListN.{getD}
 use borrow.Author.Needs.{needs}
-use Rattle.image.specs.Words.{Bytes}
 use Rattle.header.specs.Fields.{segment, mEfnu}
 use Rattle.pointers.specs.Pointers.{Fits}
 use Rattle.volume.specs.Volume.{header}
 use Rattle.chains.specs.Chains.{goodLink, fileBlocks}
-use Rattle.chains.proofs.NumberLaws.{number-fits, segment-most}
-use Rattle.chains.proofs.LinkLaws.{Linked, good-links}
+use Rattle.chains.proofs.NumberLaws.{number-fits}
 use Rattle.chains.proofs.ChainLaws.{Walk, walk-start, walk-same, walk-here, walk-good, walk-more, walk-next}
 use Rattle.chains.proofs.lbn_at.Statement.{statement}
 use Rattle.chains.proofs.lbn_at.Tie as tie
@@ -22,9 +20,6 @@ Inv-loop image v at i h₀ left₀ h left = (left ≤ i) × ((n : ℕ) → Walk 
 
 abbrev μ-loop : tie.MeasureT-loop
 μ-loop image v at i h₀ left₀ h left = 255 - segment h
-
-bytes : (c : tie.After-shared-slice-known Inv-loop μ-loop) → Bytes (now (c .before .args .image))
-bytes c = record { each = λ k. omega (arith, c .shared-slice-known .given k) }
 
 at : (c : tie.At-loop Inv-loop μ-loop) → let a = c .before .before .before .args in Walk (now (a .image)) (a .n .0) (now (c .loop .h)) (a .i - c .loop .left)
 unfolding header
@@ -53,9 +48,6 @@ module _ (c : tie.After-block-count Inv-loop μ-loop) (past : c .block-count .re
       let start = l .before .before .before in
       walk-good (now (start .args .image)) (start .args .n .0) (now (l .loop .h)) (start .args .i - l .loop .left) (at l) (start .pre .2)
 
-  linked : Linked (now (c .before .before .before .before .args .image)) (now (c .before .loop .h))
-  linked = good-links (now (c .before .before .before .before .args .image)) (now (c .before .loop .h)) some good
-
 loop-holds : tie.Need-loop-holds Inv-loop μ-loop
 loop-holds c = (omega arith, λ n w. walk-same _ _ _ _ _ w (omega arith))
 
@@ -75,44 +67,29 @@ returns c =
     ∙ sym (walk-here (now (a .image)) (a .n .0) (now (l .loop .h)) (a .i - l .loop .left) (at l) (l .loop .left) (omega (arith, b .block-count .ensures .0, c .before .if1 .taken)))
     ∙ ap (λ (k : ℕ). getD (fileBlocks (now (a .image)) (a .n .0)) k 0) e
 
-past : (c : tie.After-m-efnu Inv-loop μ-loop) → c .before .before .block-count .result ≤ c .before .before .before .loop .left
-past c = omega (arith, c .before .if1 .left)
-
-header-of-requires : tie.Need-header-of-requires Inv-loop μ-loop
-header-of-requires c κs =
-    let b = c .before .before in
-    (b .before .before .before .before .pre .0, rw (c .m-efnu .ensures) (linked b (past c) .number))
-
-next : (c : tie.After-header-of Inv-loop μ-loop)
-    → let l = c .before .before .before .before in
-    now (c .header-of .result) ≡ header (now (l .before .before .before .args .image)) (mEfnu (now (l .loop .h)))
-next c =
-    let l = c .before .before .before .before in
-    c .header-of .ensures ∙ ap (header (now (l .before .before .before .args .image))) (c .before .m-efnu .ensures)
+next-header-requires : tie.Need-next-header-requires Inv-loop μ-loop
+next-header-requires c κs =
+    let b = c .before in
+    let p : b .block-count .result ≤ b .before .loop .left = omega (arith, c .if1 .left) in
+    (b .before .before .before .before .pre .0, some b p, good b p)
 
 loop-less : tie.Need-loop-less Inv-loop μ-loop
-loop-less c =
-    let b = c .before .before .before in
-    let l = b .before in
-    let k = l .before .before in
-    omega (arith, ap segment (next c), linked b (past (c .before)) .next, segment-most (now (k .before .args .image)) (mEfnu (now (l .loop .h))) (bytes k))
+loop-less c = omega (arith, c .next-header .ensures .higher, c .next-header .ensures .low)
 
 loop-again : tie.Need-loop-again Inv-loop μ-loop
 loop-again c =
-    let b = c .before .before .before in
+    let b = c .before .before in
     let l = b .before in
-    let k = l .before .before in
-    let i = k .before .args .i in
-    let p = past (c .before) in
-    let e = l .loop .inv .0 in (
+    let a = l .before .before .before .args in
+    let e = l .loop .inv .0 in
+    let p : b .block-count .result ≤ l .loop .left = omega (arith, c .before .if1 .left) in (
       omega (arith, e),
       λ n w.
-          rw (next c)
-          (walk-same _ _ _ _ _ (walk-next (now (k .before .args .image)) n (now (l .loop .h)) (i - l .loop .left) (l .loop .inv .1 n w) (bytes k) (some b p) (good b p)) (omega (arith, p, e, b .block-count .ensures .0))),
+          walk-same _ _ _ _ _ (walk-next (now (a .image)) n (now (l .loop .h)) (a .i - l .loop .left) (l .loop .inv .1 n w) _ (c .next-header .ensures)) (omega (arith, p, e, b .block-count .ensures .0)),
     )
 
 pub lbn-at-spec : {M : Type 1} → statement M
 lbn-at-spec =
     tie.close
-    (tie.spec Inv-loop μ-loop (search needs) loop-holds block-count-requires lbn-in-requires returns (search needs) (search needs)
-    header-of-requires loop-less loop-again)
+    (tie.spec Inv-loop μ-loop (search needs) loop-holds block-count-requires lbn-in-requires returns
+    next-header-requires loop-less loop-again)

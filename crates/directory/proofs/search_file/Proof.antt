@@ -6,13 +6,11 @@ use Prim.Native.Nat.{ℕ, _+_, _*_, _-_, _/_, _≤_}
 use native.Mathlib.Omega.{arith}
 use denote.Ref.{now}
 use lib.ListN.{length}
-use Rattle.image.specs.Words.{Bytes}
 use Rattle.header.specs.Fields.{segment, mEfnu}
 use Rattle.pointers.specs.Pointers.{Fits, blocksOf}
 use Rattle.volume.specs.Volume.{header}
 use Rattle.chains.specs.Chains.{goodLink, fileBlocks}
-use Rattle.chains.proofs.NumberLaws.{number-fits, segment-most}
-use Rattle.chains.proofs.LinkLaws.{Linked, good-links}
+use Rattle.chains.proofs.NumberLaws.{number-fits}
 use Rattle.chains.proofs.ChainLaws.{Walk, walk-start, walk-good, walk-next, walk-end-length}
 use Rattle.directory.specs.Search.{searchIn}
 use Rattle.directory.proofs.SearchLaws.{Turn, walk-part, walk-pointers, search-turn, search-none, search-range}
@@ -26,9 +24,6 @@ Inv-loop image v at from to w h₀ place₀ start₀ h place start =
 
 abbrev μ-loop : tie.MeasureT-loop
 μ-loop image v at from to w h₀ place₀ start₀ h place start = 255 - segment h
-
-bytes : (c : tie.After-shared-slice-known Inv-loop μ-loop) → Bytes (now (c .before .args .image))
-bytes c = record { each = λ k. omega (arith, c .shared-slice-known .given k) }
 
 started : (c : tie.After-block Inv-loop μ-loop) → let a = c .before .before .args in Walk (now (a .image)) (a .n .0) (now (c .block .result)) 0
 unfolding header
@@ -68,17 +63,6 @@ good c =
     let k = l .before .before .before in
     walk-good (now (k .args .image)) (k .args .n .0) (now (l .loop .h)) (l .loop .start / 32) (at l .0) (k .pre .0 .2)
 
-linked : (c : tie.Else2 Inv-loop μ-loop) → let l = c .before .before .before .before .before in Linked (now (l .before .before .before .args .image)) (now (l .loop .h))
-linked c = good-links _ _ (some c) (good c)
-
--- The next header is the one that the link names.
-next : (c : tie.After-header-of Inv-loop μ-loop) →
-    let l = c .before .before .before .before .before .before in
-    now (c .header-of .result) ≡ header (now (l .before .before .before .args .image)) (mEfnu (now (l .loop .h)))
-next c =
-    let l = c .before .before .before .before .before .before in
-    c .header-of .ensures ∙ ap (header (now (l .before .before .before .args .image))) (c .before .before .m-efnu .ensures)
-
 loop-holds : tie.Need-loop-holds Inv-loop μ-loop
 loop-holds c = (search needs, search needs, search needs, refl, λ n w. (w, refl))
 
@@ -105,22 +89,17 @@ returns-2 c =
     let none = search-none (now (a .image)) (fileBlocks (now (a .image)) (a .n .0)) (a .w) (l .loop .start + t .search-header .result) (a .to) (omega (arith, last)) in
     search-range _ _ _ _ _ (omega arith) _ (rw (at l .1, turn t _ (at l .0) .on (omega arith)) (sym none))
 
-header-of-requires : tie.Need-header-of-requires Inv-loop μ-loop
-header-of-requires c κs =
-    (c .before .before .before .before .before .before .before .before .pre .0 .0, rw (c .before .m-efnu .ensures) (linked c .number))
+next-header-requires : tie.Need-next-header-requires Inv-loop μ-loop
+next-header-requires c κs = (c .before .before .before .before .before .before .before .before .pre .0 .0, some c, good c)
 
 loop-less : tie.Need-loop-less Inv-loop μ-loop
-loop-less c =
-    let l = c .before .before .before .before .before .before in
-    let k = l .before .before in
-    omega (arith, ap segment (next c), linked (c .before) .next, segment-most (now (k .before .args .image)) (mEfnu (now (l .loop .h))) (bytes k))
+loop-less c = omega (arith, c .next-header .ensures .higher, c .next-header .ensures .low)
 
 loop-again : tie.Need-loop-again Inv-loop μ-loop
 loop-again c =
     let t = c .before .before .before .before in
     let l = t .before .before in
-    let k = l .before .before in
-    let a = k .before .args in
+    let a = l .before .before .before .args in
     let e : (l .loop .start + 32 * t .before .block-count .result) / 32 ≡ l .loop .start / 32 + length (blocksOf (now (l .loop .h))) = omega (arith, t .before .block-count .ensures .0) in (
       search needs,
       search needs,
@@ -128,7 +107,7 @@ loop-again c =
       omega arith,
       λ n w.
           let here = l .loop .inv .4 n w in (
-            rw (next c, e) (walk-next (now (a .image)) n (now (l .loop .h)) (l .loop .start / 32) (here .0) (bytes k) (some (c .before)) (good (c .before))),
+            rw e (walk-next (now (a .image)) n (now (l .loop .h)) (l .loop .start / 32) (here .0) _ (c .next-header .ensures)),
             rw (here .1) (turn t n (here .0) .on (omega arith)),
           ),
     )
@@ -137,5 +116,5 @@ pub search-file-spec : {M : Type 1} → statement M
 search-file-spec =
     tie.close
     (tie.spec Inv-loop μ-loop (search needs) loop-holds block-count-requires (search needs) (search needs) search-header-requires
-    (search needs) (search needs) returns (search needs) (search needs) (search needs) (search needs) (search needs) returns-2
-    header-of-requires loop-less loop-again)
+    (search needs) (search needs) returns (search needs) (search needs) (search needs) (search needs) returns-2
+    next-header-requires loop-less loop-again)

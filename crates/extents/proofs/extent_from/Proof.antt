@@ -10,7 +10,7 @@ use Rattle.answer.specs.declared.outcome.Outcome.the-variants.{Passed}
 use Rattle.chains.specs.Chains.{fileBlocks}
 use Rattle.open_file.specs.Opening.{openFile}
 use Rattle.open_file.proofs.OpeningLaws.{opened}
-use Rattle.extents.proofs.RowLaws.{Told, told}
+use Rattle.rows.proofs.RowLaws.{Told, told}
 use Rattle.extents.proofs.ExtentLaws.{extent-refused, extent-zero, extent-beyond, extent-done}
 use Rattle.extents.proofs.extent_from.Statement.{statement}
 use Rattle.extents.proofs.extent_from.Tie as tie

@@ -1,6 +1,8 @@
 -- Each word stands where the definition has it.
 use borrow.Author.Needs.{needs}
-use Rattle.file_facts.specs.Files.{hFown, hFpro, hFcha, fRtypRatt, fRsiz, fHibk, fEfbk, fFfby, fileFacts}
+use Rattle.header.specs.Fields.{hFown, hFpro, hFcha}
+use Rattle.header.specs.Attributes.{fRtypRatt, fRsiz, fHibk, fEfbk, fFfby}
+use Rattle.file_facts.specs.Files.{fileFacts}
 use Rattle.file_facts.proofs.facts_of.Statement.{statement}
 use Rattle.file_facts.proofs.facts_of.Tie as tie
 

@@ -16,7 +16,8 @@ use Rattle.pointers.specs.Pointers.{placeIn}
 use Rattle.pointers.specs.declared.Place.{Place}
 use Rattle.pointers.specs.declared.Place.the-variants.{At, Past}
 use Rattle.home.specs.Home.{blocks}
-use Rattle.volume.specs.Volume.{ibsz, inUse, follows, leadsOn, mappedBy, indexHeader}
+use Rattle.volume.specs.Volume.{ibsz, inUse, follows, leadsOn, indexHeader}
+use Rattle.pointers.specs.Pointers.{flat}
 use Rattle.volume.proofs.OpeningLaws.{sized-is, geometry-is}
 use Rattle.volume.proofs.IndexLaws.{Found, found, leads-unused}
 use Rattle.volume.proofs.VolumeLaws.{heads-gives, laid-room, laid-mapped}
@@ -85,14 +86,14 @@ placed : (c : tie.After-place-among Inv-loop μ-loop) (p : Place) → c .place-a
     → let l = c .before .before .before .before .before .before .before .before .before in
     let s = l .before .before .before in
     let image = now (s .args .image) in
-    Found (mappedBy image (seen image (l .loop .places) (l .loop .count) (l .loop .at) (l .loop .inv))) [] (1 + s .args .v .ibsz + c .before .before .before .before .before .before .before .m-efnu .result) p
+    Found (flat (block image) (seen image (l .loop .places) (l .loop .count) (l .loop .at) (l .loop .inv))) [] (1 + s .args .v .ibsz + c .before .before .before .before .before .before .before .m-efnu .result) p
 placed c p e =
     let m = c .before .before .before .before .before .before .before in
     let l = m .before .before in
     let s = l .before .before .before in
     let image = now (s .args .image) in
-    found (mappedBy image (seen image (l .loop .places) (l .loop .count) (l .loop .at) (l .loop .inv))) [] (1 + s .args .v .ibsz + m .m-efnu .result) p
-    (ap (λ (ls : List ℕ). placeIn (mappedBy image ls) (1 + s .args .v .ibsz + m .m-efnu .result)) (sym (along-take image (l .loop .places) (l .loop .count) (l .loop .at) (l .loop .inv)))
+    found (flat (block image) (seen image (l .loop .places) (l .loop .count) (l .loop .at) (l .loop .inv))) [] (1 + s .args .v .ibsz + m .m-efnu .result) p
+    (ap (λ (ls : List ℕ). placeIn (flat (block image) ls) (1 + s .args .v .ibsz + m .m-efnu .result)) (sym (along-take image (l .loop .places) (l .loop .count) (l .loop .at) (l .loop .inv)))
     ∙ sym (c .place-among .ensures) ∙ e)
 
 -- The place that is asked for is that of M.EFNU's slot.
@@ -121,7 +122,7 @@ next-long c =
 tested : (c : tie.After-is-next Inv-loop μ-loop)
     → let l = c .before .before .before .before .before .before .before .before .before .before .before .before .before .before in
     let image = now (l .before .before .before .args .image) in
-    c .is-next .result ≡ leadsOn image (mappedBy image (seen image (l .loop .places) (l .loop .count) (l .loop .at) (l .loop .inv))) (block image (l .loop .at))
+    c .is-next .result ≡ leadsOn image (flat (block image) (seen image (l .loop .places) (l .loop .count) (l .loop .at) (l .loop .inv))) (block image (l .loop .at))
 tested c =
     let b = c .before in
     let g = b .before .before in
@@ -135,7 +136,7 @@ tested c =
     let h = block image (l .loop .at) in
     c .is-next .ensures
     ∙ rw (m .before .block .ensures, b .block2 .ensures, s .pre .3 .blocks)
-    (sym (leads-at image (mappedBy image (seen image (l .loop .places) (l .loop .count) (l .loop .at) (l .loop .inv))) h (1 + s .args .v .ibsz + m .m-efnu .result) (place m)
+    (sym (leads-at image (flat (block image) (seen image (l .loop .places) (l .loop .count) (l .loop .at) (l .loop .inv))) h (1 + s .args .v .ibsz + m .m-efnu .result) (place m)
     (sym (used u) ∙ not-false (u .is-marked .result) (p .before .before .before .if3 .left)) (f .0) (g .place .given .0 .0 .0) (f .1)))
 
 returns : tie.Need-returns Inv-loop μ-loop
@@ -165,7 +166,7 @@ returns-3 c =
     let image = now (l .before .before .before .args .image) in
     off image _
     (along-bad image (l .loop .places) (l .loop .count) (l .loop .at) (l .loop .inv) (some e)
-    (leads-unused image (mappedBy image (seen image (l .loop .places) (l .loop .count) (l .loop .at) (l .loop .inv))) (block image (l .loop .at)) (sym (used u) ∙ not-true (u .is-marked .result) (c .if3 .taken))))
+    (leads-unused image (flat (block image) (seen image (l .loop .places) (l .loop .count) (l .loop .at) (l .loop .inv))) (block image (l .loop .at)) (sym (used u) ∙ not-true (u .is-marked .result) (c .if3 .taken))))
 
 add-place-among : tie.Need-add-place-among Inv-loop μ-loop
 add-place-among c = omega (arith, room (c .before .before .before .before .before .before .before .before .before .before .before))
@@ -211,7 +212,7 @@ loop-again c =
     let image = now (l .before .before .before .args .image) in
     let f = placed p (At (g .place .given .0 .0)) (g .place .given .1) in
     along-next image (l .loop .places) (l .loop .count) (l .loop .at) (l .loop .inv) (sym (tested n) ∙ not-false (n .is-next .result) (c .if4 .left)) (omega arith) _
-    (f .1 ∙ ap (λ (i : ℕ). getD (mappedBy image (seen image (l .loop .places) (l .loop .count) (l .loop .at) (l .loop .inv))) i 0) (place m))
+    (f .1 ∙ ap (λ (i : ℕ). getD (flat (block image) (seen image (l .loop .places) (l .loop .count) (l .loop .at) (l .loop .inv))) i 0) (place m))
 
 returns-5 : tie.Need-returns-5 Inv-loop μ-loop
 returns-5 c =
@@ -220,7 +221,7 @@ returns-5 c =
     let m = e .before in
     let l = m .before .before in
     let image = now (l .before .before .before .args .image) in
-    let part = mappedBy image (seen image (l .loop .places) (l .loop .count) (l .loop .at) (l .loop .inv)) in
+    let part = flat (block image) (seen image (l .loop .places) (l .loop .count) (l .loop .at) (l .loop .inv)) in
     let f = placed p (Past (c .enum-told .given .0 .0)) (c .enum-told .given .1) in
     off image _ (along-bad image (l .loop .places) (l .loop .count) (l .loop .at) (l .loop .inv) (some e) (leads-past image part (block image (l .loop .at)) _ (place m) (some e) (f .0)))
 

@@ -5,18 +5,19 @@ use denote.Ref.{now}
 use Rattle.image.specs.Blocks.{block}
 use Rattle.answer.specs.Outcome.{_then_}
 use Rattle.answer.proofs.OutcomeLaws.{then-passed, then-refused}
-use Rattle.volume.specs.Volume.{header}
-use Rattle.open_file.specs.declared.Finding.the-variants.{At}
+use Rattle.volume.specs.Volume.{slot, header}
+use Rattle.chains.specs.declared.Finding.the-variants.{At}
+use Rattle.chains.proofs.FindingLaws.{Found, found}
 use Rattle.open_file.specs.Opening.{find, access, chained}
-use Rattle.open_file.proofs.OpeningLaws.{Found, found, access-by, tells-refused, finds}
+use Rattle.open_file.proofs.OpeningLaws.{access-by, tells-refused, finds}
 use Rattle.open_file.proofs.open_on.Statement.{statement}
 use Rattle.open_file.proofs.open_on.Tie as tie
 
-known : (c : tie.After-found) → let a = c .before .before .before .before .args in Found (now (a .image)) (a .id) (At (c .found .given .0 .0))
+known : (c : tie.After-found) → let a = c .before .before .before .before .args in Found (find (now (a .image)) (a .id)) (slot (now (a .image)) (a .id .number)) (At (c .found .given .0 .0))
 known c =
     let f = c .before .before in
     let a = f .before .before .args in
-    found (now (a .image)) (a .id) _ (sym (c .found .given .1) ∙ f .find .ensures)
+    found (find (now (a .image)) (a .id)) (slot (now (a .image)) (a .id .number)) _ (sym (c .found .given .1) ∙ f .find .ensures)
 
 asked : (c : tie.After-access) → let a = c .before .before .before .before .before .before .before .args in c .access .result ≡ access (now (a .image)) (a .id)
 unfolding header
@@ -62,7 +63,7 @@ returns-3 c =
     let a = f .before .before .args in
     let image = now (a .image) in
     tells-refused image (a .id) _ _ _
-    (then-refused (find image (a .id)) (access image (a .id) then chained image (a .id)) _ (found image (a .id) _ (sym (d .found2 .given .1) ∙ f .find .ensures)))
+    (then-refused (find image (a .id)) (access image (a .id) then chained image (a .id)) _ (found (find image (a .id)) (slot image (a .id .number)) _ (sym (d .found2 .given .1) ∙ f .find .ensures)))
     (c .refused2 .ensures .0) (c .refused2 .ensures .1)
 
 pub open-on-spec : {M : Type 1} → statement M

@@ -1,76 +1,48 @@
--- What is left is the place less the blocks of the pointers so far.
+-- The pointer's own blocks lie one after the other.
 use borrow.Author.Needs.{needs}
 use native.Mathlib.Omega.{arith}
-use mathlib.Core.Path.{_≡_, sym, ap, ap₂, _∙_}
-use Prim.Native.Nat.{ℕ, _+_, _-_, _≤_}
+use mathlib.Core.Path.{_≡_, ap, _∙_}
+use Prim.Native.Nat.{ℕ, _+_, _<_}
 use denote.Ref.{now}
 use lib.ListN.{length}
 use Rattle.pointers.specs.Pointers.{pointersAt, pointers, runs, blocksOf}
 use Rattle.pointers.specs.declared.Place.the-variants.{Past}
-use Rattle.pointers.proofs.PointerLaws.{place-at, place-past, runs-none, runs-length, runs-at, runs-inside}
+use Rattle.pointers.proofs.PointerLaws.{place-at, place-past, runs-at, runs-inside}
 use Rattle.pointers.proofs.place_of.Statement.{statement}
 use Rattle.pointers.proofs.place_of.Tie as tie
 
-abbrev Inv-loop : tie.InvT-loop
-Inv-loop h i at number left₀ p₀ left p = (p ≤ number) × (i ≡ length (runs h at p) + left)
+-- A pointer has 256 blocks at most.
+lbn-fits : tie.Need-add-t10
+lbn-fits c =
+    let f = c .before .before .before in
+    let n = f .before .before .before in
+    omega (arith, n .before .spot-of .ensures .few (omega (arith, f .before .if1 .taken, n .pointer-number .ensures .0)))
 
-abbrev μ-loop : tie.MeasureT-loop
-μ-loop h i at number left₀ p₀ left p = number - p
-
-loop-holds : tie.Need-loop-holds Inv-loop μ-loop
-loop-holds c =
-    let b = c .before in
-    (search needs, omega (arith, ap length (runs-none (now (b .before .before .args .h)) (b .first-pointer .result))))
-
-loop-again : tie.Need-loop-again Inv-loop μ-loop
-loop-again c =
-    let l = c .before .before .before in
-    let b = l .before .before in
-    (search needs, omega (arith, runs-length (now (b .before .before .args .h)) (b .first-pointer .result) (l .loop .p)))
-
-returns : tie.Need-returns Inv-loop μ-loop
+returns : tie.Need-returns
 unfolding blocksOf
 returns c =
-    let l = c .before .before .before .before in
-    let b = l .before .before in
-    let h = now (b .before .before .args .h) in
-    let p = l .loop .p in
-    let k = l .before .pointer-number .result in
-    let at = b .first-pointer .result in
-    let e : runs h (pointersAt h) (pointers h) ≡ runs h at k = ap₂ (runs h) (sym (b .first-pointer .ensures .0)) (sym (l .before .pointer-number .ensures .0)) in
-    rw (e, l .loop .inv .1, place-at (runs h at k) (length (runs h at p) + l .loop .left) (runs-inside h at p k (l .loop .left) (omega arith) (omega arith)), runs-at h at p k (l .loop .left) (omega arith) (omega arith), c .pointer-lbn .ensures .0)
+    let f = c .before .before .before in
+    let n = f .before .before .before in
+    let k = n .before in
+    let h = now (k .before .before .args .h) in
+    let p = k .spot-of .result .pointer in
+    let o = k .spot-of .result .offset in
+    let s = k .spot-of .ensures in
+    let l : p < pointers h = omega (arith, f .before .if1 .taken, n .pointer-number .ensures .0) in
+    rw (s .place, place-at (runs h (pointersAt h) (pointers h)) (length (runs h (pointersAt h) p) + o) (runs-inside h (pointersAt h) p (pointers h) o l (s .inside l)), runs-at h (pointersAt h) p (pointers h) o l (s .inside l), c .before .pointer-lbn .ensures .0, f .first-pointer .ensures .0)
 
-returns-2 : tie.Need-returns-2 Inv-loop μ-loop
+returns-2 : tie.Need-returns-2
 unfolding blocksOf
 returns-2 c =
-    let l = c .before in
-    let b = l .before .before in
-    let h = now (b .before .before .args .h) in
-    let k = l .before .pointer-number .result in
-    let at = b .first-pointer .result in
-    let e : runs h (pointersAt h) (pointers h) ≡ runs h at k = ap₂ (runs h) (sym (b .first-pointer .ensures .0)) (sym (l .before .pointer-number .ensures .0)) in
-    let d : l .loop .p ≡ k = omega arith in
-    let i : b .before .before .args .i ≡ length (runs h at k) + l .loop .left = l .loop .inv .1 ∙ ap (λ (p : ℕ). length (runs h at p) + l .loop .left) d in
-    rw (e, i, place-past (runs h at k) (length (runs h at k) + l .loop .left) (omega arith)) (ap Past (omega arith))
+    let k = c .before .before .before in
+    let h = now (k .before .before .args .h) in
+    let spot = k .spot-of .result in
+    let s = k .spot-of .ensures in
+    let e : spot .pointer ≡ pointers h = omega (arith, s .most, c .if1 .left, c .before .before .pointer-number .ensures .0) in
+    let i : k .before .before .args .i ≡ length (runs h (pointersAt h) (pointers h)) + spot .offset = s .place ∙ ap (λ (p : ℕ). length (runs h (pointersAt h) p) + spot .offset) e in
+    rw (i, place-past (runs h (pointersAt h) (pointers h)) (length (runs h (pointersAt h) (pointers h)) + spot .offset) (omega arith)) (ap Past (omega arith))
 
 pub place-of-spec : {M : Type 1} → statement M
 place-of-spec =
     tie.close
-    (tie.spec
-    Inv-loop
-    μ-loop
-    (search needs)
-    (search needs)
-    loop-holds
-    (search needs)
-    (search needs)
-    (search needs)
-    (search needs)
-    (search needs)
-    (search needs)
-    (search needs)
-    returns
-    (search needs)
-    (search needs)
-    loop-again
-    returns-2)
+    (tie.spec (search needs) (search needs) (search needs) (search needs) (search needs) (search needs) lbn-fits returns returns-2)

@@ -9,14 +9,15 @@ use lib.ListN.{length, getD, take, length-append}
 use lib.Seq.{take-all}
 use Rattle.image.specs.Blocks.{block}
 use Rattle.pointers.specs.Pointers.{blocksOf}
-use Rattle.volume.specs.Volume.{places, mappedBy, index}
+use Rattle.volume.specs.Volume.{places, index}
+use Rattle.pointers.specs.Pointers.{flat}
 use Rattle.volume.proofs.IndexLaws.{mapped-none, mapped-step}
 use Rattle.volume.proofs.VolumeLaws.{opens, headers-fit, says-segments, segments-least, segments-most, places-long, place-read}
 use Rattle.volume.proofs.index_blocks.Statement.{statement}
 use Rattle.volume.proofs.index_blocks.Tie as tie
 
 abbrev Inv-loop : tie.InvT-loop
-Inv-loop image at count sum₀ k₀ sum k = (k ≤ count) × (sum ≡ length (mappedBy image (take k (places image)))) × (sum ≤ 32512 * k)
+Inv-loop image at count sum₀ k₀ sum k = (k ≤ count) × (sum ≡ length (flat (block image) (take k (places image)))) × (sum ≤ 32512 * k)
 
 abbrev μ-loop : tie.MeasureT-loop
 μ-loop image at count sum₀ k₀ sum k = count - k
@@ -77,7 +78,7 @@ loop-again c =
     let ls = places image in
     let k = l .loop .k in (
       search needs,
-      omega (arith, l .loop .inv .1, c .block-count .ensures .0, ap (λ (h : List ℕ). length (blocksOf h)) (header-read b), ap length (mapped-step image ls k (at-hand i .0)), length-append (mappedBy image (take k ls)) (blocksOf (block image (getD ls k 0)))),
+      omega (arith, l .loop .inv .1, c .block-count .ensures .0, ap (λ (h : List ℕ). length (blocksOf h)) (header-read b), ap length (mapped-step image ls k (at-hand i .0)), length-append (flat (block image) (take k ls)) (blocksOf (block image (getD ls k 0)))),
       omega (arith, l .loop .inv .2, c .block-count .ensures .1),
     )
 
@@ -87,7 +88,7 @@ returns c =
     let l = c .before in
     let s = l .before .before in
     let image = now (s .args .image) in
-    l .loop .inv .1 ∙ ap (λ (ls : List ℕ). length (mappedBy image ls)) (take-all (l .loop .k) (places image) (omega (arith, room s)))
+    l .loop .inv .1 ∙ ap (λ (ls : List ℕ). length (flat (block image) ls)) (take-all (l .loop .k) (places image) (omega (arith, room s)))
 
 pub index-blocks-spec : {M : Type 1} → statement M
 index-blocks-spec =

@@ -12,13 +12,13 @@ use Rattle.pointers.specs.Pointers.{blocksOf, placeIn}
 use Rattle.pointers.specs.declared.Place.{Place}
 use Rattle.pointers.specs.declared.Place.the-variants.{At, Past}
 use Rattle.pointers.proofs.PointerLaws.{place-past}
-use Rattle.volume.specs.Volume.{mappedBy}
+use Rattle.pointers.specs.Pointers.{flat}
 use Rattle.volume.proofs.IndexLaws.{Found, found, mapped-drop, mapped-past}
 use Rattle.volume.proofs.place_among.Statement.{statement}
 use Rattle.volume.proofs.place_among.Tie as tie
 
 abbrev Inv-loop : tie.InvT-loop
-Inv-loop image at k i left₀ j₀ left j = (j ≤ k) × (placeIn (mappedBy image (take k at)) i ≡ placeIn (mappedBy image (drop j (take k at))) left)
+Inv-loop image at k i left₀ j₀ left j = (j ≤ k) × (placeIn (flat (block image) (take k at)) i ≡ placeIn (flat (block image) (drop j (take k at))) left)
 
 abbrev μ-loop : tie.MeasureT-loop
 μ-loop image at k i left₀ j₀ left j = k - j
@@ -43,21 +43,21 @@ placed : (c : tie.After-place-of Inv-loop μ-loop) (p : Place) → c .place-of .
     → let l = c .before .before .before .before in
     let s = l .before .before in
     let ls = take (s .args .k) (now (s .args .at)) in
-    Found (blocksOf (block (now (s .args .image)) (getD ls (l .loop .j) 0))) (mappedBy (now (s .args .image)) (drop (l .loop .j + 1) ls)) (l .loop .left) p
+    Found (blocksOf (block (now (s .args .image)) (getD ls (l .loop .j) 0))) (flat (block (now (s .args .image))) (drop (l .loop .j + 1) ls)) (l .loop .left) p
 placed c p e =
     let b = c .before in
     let l = b .before .before .before in
     let s = l .before .before in
     let ls = take (s .args .k) (now (s .args .at)) in
-    found (blocksOf (block (now (s .args .image)) (getD ls (l .loop .j) 0))) (mappedBy (now (s .args .image)) (drop (l .loop .j + 1) ls)) (l .loop .left) p
+    found (blocksOf (block (now (s .args .image)) (getD ls (l .loop .j) 0))) (flat (block (now (s .args .image))) (drop (l .loop .j + 1) ls)) (l .loop .left) p
     (ap (λ (h : List ℕ). placeIn (blocksOf h) (l .loop .left)) (sym (header b)) ∙ sym (c .place-of .ensures) ∙ e)
 
 -- The blocks from the header at hand on.
 split : (c : tie.At-loop Inv-loop μ-loop) → c .loop .j < c .before .before .args .k
     → let s = c .before .before in
     let ls = take (s .args .k) (now (s .args .at)) in
-    placeIn (mappedBy (now (s .args .image)) ls) (s .args .i)
-    ≡ placeIn (blocksOf (block (now (s .args .image)) (getD ls (c .loop .j) 0)) ++ mappedBy (now (s .args .image)) (drop (c .loop .j + 1) ls)) (c .loop .left)
+    placeIn (flat (block (now (s .args .image))) ls) (s .args .i)
+    ≡ placeIn (blocksOf (block (now (s .args .image)) (getD ls (c .loop .j) 0)) ++ flat (block (now (s .args .image))) (drop (c .loop .j + 1) ls)) (c .loop .left)
 split c l =
     let s = c .before .before in
     let ls = take (s .args .k) (now (s .args .at)) in

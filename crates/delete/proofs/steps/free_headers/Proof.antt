@@ -8,7 +8,7 @@ use lib.ListN.{length, getD, take}
 use borrow.Author.Needs.{needs}
 use Rattle.image.specs.Blocks.{block}
 use Rattle.pointers.specs.Pointers.{blocksOf}
-use Rattle.chains.specs.Chains.{flat}
+use Rattle.pointers.specs.Pointers.{flat}
 use Rattle.image.specs.Stores.{putMapBits}
 use Rattle.delete.proofs.StepLaws.{put-none, put-more, put-outside, freeable-same, flat-none, flat-more}
 use Rattle.delete.proofs.steps.free_headers.Statement.{statement}

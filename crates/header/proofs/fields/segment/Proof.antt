@@ -1,19 +1,13 @@
--- The byte at the field's place in the map area.
+-- The first byte of the map area.
 use borrow.Author.Needs.{needs}
-use Rattle.header.specs.Fields.{hMpof, mapArea, segment}
+use Rattle.header.specs.Fields.{segment}
 use Rattle.header.proofs.fields.segment.Statement.{statement}
 use Rattle.header.proofs.fields.segment.Tie as tie
 
 returns : tie.Need-returns
-unfolding segment mapArea hMpof
+unfolding segment
 returns c = cc
 
 pub segment-spec : {M : Type 1} → statement M
 segment-spec =
-    tie.close
-    (tie.spec
-    (search needs)
-    (search needs)
-    (search needs)
-    (search needs)
-    returns)
+    tie.close (tie.spec (search needs) (search needs) returns)
