@@ -5,6 +5,7 @@ use Rattle.answer.specs.declared.refusal.Refusal.{Refusal}
 use Rattle.answer.specs.declared.outcome.Outcome.{Outcome}
 use Rattle.answer.specs.declared.outcome.Outcome.the-variants.{Passed, Refused}
 use Rattle.answer.specs.Outcome.{unless, _then_}
+use Rattle.answer.specs.declared.outcome.Outcome.the-variants as outcome
 
 pub refused-not : (r : Refusal) → Refused r ≡ Passed → ⊥
 refused-not r e = false≢true (ap isPassed e)
@@ -37,3 +38,8 @@ pub passed-first : (b : Bool) (r : Refusal) (next : Outcome) → (unless b r the
 passed-first b r next e =
     let both = passed-then (unless b r) next e in
     (passed-last b r (both .0), both .1)
+
+pub then-assoc : (a b c : Outcome) → ((a then b) then c) ≡ (a then (b then c))
+unfolding _then_
+then-assoc outcome.Passed b c = refl
+then-assoc (outcome.Refused r) b c = refl

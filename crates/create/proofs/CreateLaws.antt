@@ -12,7 +12,7 @@ use Rattle.answer.specs.declared.types.FileId.{FileId}
 use Rattle.answer.specs.declared.types.Name.{Name}
 use Rattle.answer.specs.Outcome.{unless, _then_}
 use Rattle.answer.proofs.OutcomeLaws.{then-passed, then-refused}
-use Rattle.radix50.specs.Names.{proper}
+use Rattle.names.specs.Names.{proper}
 use Rattle.volume.specs.Volume.{fmax}
 use Rattle.verdict.specs.Verdict.{verdict}
 use Rattle.update.specs.declared.answers.Created.the-variants.{Refused}

@@ -8,7 +8,7 @@ use answer::types::Name;
 use fresh_header::put_fresh;
 use header::fields::h_fseq;
 use image::blocks::block;
-use radix50::is_proper;
+use names::is_proper;
 use spare_number::spare_number;
 use stores::put_map_bit;
 use update::answers::Created;

@@ -30,8 +30,8 @@ use Rattle.update.proofs.DeleteLaws.{index-fits, storage-fits, header-index, De
 use Rattle.chains.specs.declared.Members.{Members}
 use Rattle.chains.specs.Members.{Lists}
 use Rattle.chains.proofs.MemberLaws.{slotsOf-getD, slotsOf-length}
-use Rattle.delete.specs.Steps.{HaveBits, Freeable, AllFreeable, AllInside}
-use Rattle.delete.proofs.StepLaws.{put-length}
+use Rattle.delete_steps.specs.Steps.{HaveBits, Freeable, AllFreeable, AllInside}
+use Rattle.delete_steps.proofs.StepLaws.{put-length}
 
 -- A number whose header was found is that of a file.
 pub first-file : (image : List ℕ) (n : ℕ) → IsFirst image n → IsFile image n

@@ -1,3 +1,2 @@
-pub mod StepLaws
 pub mod ChainLaws
 pub mod OutcomeLaws

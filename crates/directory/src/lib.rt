@@ -6,6 +6,7 @@ use chains::next_header;
 use header::fields::m_efnu;
 use image::blocks::block;
 use image::blocks::region;
+use image::numbers::least;
 use pointers::block_count;
 use pointers::first_pointer;
 use pointers::pointer_count;
@@ -18,20 +19,13 @@ use records::first_in;
 use volume::Places;
 use volume::Volume;
 ghost use mathlib.Core.Path.{_≡_};
-ghost use Prim.Native.Nat.{_+_, _*_, min, _≤_, _<_};
+ghost use Prim.Native.Nat.{_+_, _*_, _≤_, _<_};
 ghost use lib.ListN.{length};
 ghost use Rattle.lists.specs.Lists.{numbersFrom};
 ghost use Rattle.pointers.specs.Pointers.{Fits, blocksOf};
 ghost use Rattle.volume.specs.Volume.{slot};
 ghost use Rattle.chains.specs.Chains.{fileBlocks};
 ghost use Rattle.directory.specs.Search.{entryOfFile, searchIn, Inside, FileOpen};
-
-// The lesser of two numbers.
-fn least(a: u32, b: u32) -> u32
-    ensures { λ r. ⌜ r ≡ min a b ⌝ }
-{
-    if a < b { a } else { b }
-}
 
 // A run of blocks, as one retrieval pointer covers it.
 fn search_run(image: &[u8], lbn: u32, count: u32, from: u32, to: u32, w: Wanted) -> u32

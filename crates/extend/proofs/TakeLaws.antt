@@ -25,7 +25,7 @@ use Rattle.image.proofs.WriteLaws.{putMapBits-outside}
 use Rattle.update.proofs.ExtendLaws.{count-range, run-fits}
 use Rattle.update.proofs.PassedLaws.{ExtendPassed}
 use Rattle.update.proofs.LastLaws.{last-member}
-use Rattle.extend.specs.Tests.{Takes}
+use Rattle.extend.specs.Taking.{Takes}
 
 module _ (image : List ℕ) (g : Good image) (id : FileId) (c : ℕ) (p : ExtendPassed image id c) where
   abbrev n : ℕ

@@ -15,7 +15,7 @@ ghost use Rattle.volume.specs.Volume.{mapBlocks, base};
 ghost use Rattle.volume.specs.Opening.{Open};
 ghost use Rattle.header_edit.specs.Extended.{extendedHeader};
 ghost use Rattle.image.specs.Stores.{putBlock, putMapBits};
-ghost use Rattle.extend.specs.Tests.{Takes};
+ghost use Rattle.extend.specs.Taking.{Takes};
 
 // The c blocks from LBN s on taken: their bits of the storage map clear.
 fn take_blocks(image: &mut [u8], v: Volume, s: u32, c: u32)

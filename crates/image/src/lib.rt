@@ -2,5 +2,6 @@
 
 pub mod bits;
 pub mod blocks;
+pub mod numbers;
 pub mod sums;
 pub mod words;

@@ -5,6 +5,7 @@ use header::fields::h_fseq;
 use header::fields::m_efnu;
 use header::fields::segment;
 use image::blocks::block;
+use image::numbers::least;
 use pointers::Place;
 use pointers::first_pointer;
 use pointers::pointer_count;
@@ -18,7 +19,7 @@ use volume::place_among;
 use whole::fault;
 ghost use mathlib.Core.Path.{_≡_};
 ghost use mathlib.Core.Bool.{true, _&&_};
-ghost use Prim.Native.Nat.{_+_, _<_, _^_, min};
+ghost use Prim.Native.Nat.{_+_, _<_, _^_};
 ghost use lib.Dec.{eqb};
 ghost use lib.ListN.{length};
 ghost use Rattle.lists.specs.First.{below};
@@ -124,13 +125,6 @@ pub fn is_head(h: &[u8], blocks: u32, n: u32) -> bool
     let fseq = h_fseq(h);
     let number = segment(h);
     ((fseq as u32) == n) & (number == 0)
-}
-
-// The lesser of two numbers.
-fn least(a: u32, b: u32) -> u32
-    ensures { λ r. ⌜ r ≡ min a b ⌝ }
-{
-    if a <= b { a } else { b }
 }
 
 // Whether the first m + 18 blocks of a header are those of the index file. Its pointers are walked in order, as far as these blocks go.

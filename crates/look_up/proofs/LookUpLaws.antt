@@ -11,7 +11,7 @@ use Rattle.answer.specs.declared.refusal.Refusal.{Refusal}
 use Rattle.answer.specs.declared.refusal.Refusal.the-variants as refusal
 use Rattle.answer.specs.declared.outcome.Outcome.the-variants.{Passed, Refused}
 use Rattle.answer.specs.Outcome.{unless, _then_}
-use Rattle.radix50.specs.Names.{proper}
+use Rattle.names.specs.Names.{proper}
 use Rattle.records.specs.declared.Wanted.{Wanted}
 use Rattle.records.specs.declared.Wanted.the-variants.{Any, Named}
 use Rattle.volume.specs.Volume.{volumeOf, placesOf}

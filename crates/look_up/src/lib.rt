@@ -40,7 +40,7 @@ fn look_up_opened(
     requires { ⌜ (openFile (now image) id ≡ Passed) × (v ≡ volumeOf (now image)) × (count ≡ recordCount (now image) (id .number)) × (lbn .0 ≡ slot (now image) (id .number)) × (now places ≡ placesOf (now image)) ⌝ }
     ensures { λ r. ⌜ r ≡ lookUp (now (image .entry)) id name ⌝ }
 {
-    let good = radix50::is_proper(name);
+    let good = names::is_proper(name);
     if good {
         let n = id.number as u32;
         let r = search_file(

@@ -1,13 +1,13 @@
 // Directories: looking a name up, and the next record.
 use answer::types::FileId;
 use answer::types::Name;
+use directory_words::put_found;
+use directory_words::put_stepped;
 use look_up::look_up;
 use look_up::next_record;
-use read_words::put_found;
-use read_words::put_stepped;
 ghost use mathlib.Core.Path.{_≡_};
 ghost use Rattle.look_up.specs.LookUp.{lookUp, nextRecord};
-ghost use Rattle.read_words.specs.Words.{foundWords, steppedWords};
+ghost use Rattle.directory_words.specs.Words.{foundWords, steppedWords};
 ghost use Rattle.ods1.specs.Arguments.{idOf, ofWords};
 
 // The ID that a directory has under a name, as it is stored.

@@ -1,21 +1,23 @@
 // What a volume, a header and a file say of themselves.
 use answer::types::FileId;
 use answer::types::FileNumber;
-use fact_words::put_described;
-use fact_words::put_labelled;
-use fact_words::put_laid;
-use fact_words::put_pointed;
-use fact_words::put_shown;
 use file_facts::describe;
+use file_words::put_described;
 use header_facts::show_header;
 use header_facts::show_pointer;
+use header_words::put_pointed;
+use header_words::put_shown;
 use volume_facts::geometry_of;
 use volume_facts::label_of;
+use volume_words::put_labelled;
+use volume_words::put_laid;
 ghost use mathlib.Core.Path.{_≡_};
 ghost use Rattle.volume_facts.specs.Volumes.{geometryAnswer, labelAnswer};
 ghost use Rattle.header_facts.specs.Headers.{headerAnswer, pointerAnswer};
 ghost use Rattle.file_facts.specs.Files.{fileAnswer};
-ghost use Rattle.fact_words.specs.Words.{laidWords, labelledWords, shownWords, pointedWords, describedWords};
+ghost use Rattle.volume_words.specs.Words.{laidWords, labelledWords};
+ghost use Rattle.header_words.specs.Words.{shownWords, pointedWords};
+ghost use Rattle.file_words.specs.Words.{describedWords};
 ghost use Rattle.ods1.specs.Arguments.{idOf};
 
 // Where the parts of a volume lie.

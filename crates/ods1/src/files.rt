@@ -1,15 +1,15 @@
 // Files by ID: how many blocks one has, and where its blocks lie.
 use answer::types::FileId;
 use answer::types::Vbn;
+use file_words::put_block;
+use file_words::put_mapped;
+use file_words::put_opened_file;
 use mapping::map;
 use open_file::open_file;
-use read_words::put_block;
-use read_words::put_mapped;
-use read_words::put_opened_file;
 ghost use mathlib.Core.Path.{_≡_};
 ghost use Rattle.open_file.specs.Opening.{openAnswer};
 ghost use Rattle.mapping.specs.Mapping.{mapAnswer};
-ghost use Rattle.read_words.specs.Words.{openedFileWords, mappedWords, blockWords};
+ghost use Rattle.file_words.specs.Words.{openedFileWords, mappedWords, blockWords};
 ghost use Rattle.ods1.specs.Arguments.{idOf};
 
 // How many blocks a file has.

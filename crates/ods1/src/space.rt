@@ -3,13 +3,14 @@ use answer::types::FileId;
 use answer::types::Lbn;
 use answer::types::Vbn;
 use extents::extent_from;
-use fact_words::put_extent;
-use fact_words::put_free;
+use file_words::put_extent;
 use free::free_run;
+use volume_words::put_free;
 ghost use mathlib.Core.Path.{_≡_};
 ghost use Rattle.extents.specs.Extents.{extentAnswer};
 ghost use Rattle.free.specs.Free.{freeRun};
-ghost use Rattle.fact_words.specs.Words.{extentWords, freeWords};
+ghost use Rattle.file_words.specs.Words.{extentWords};
+ghost use Rattle.volume_words.specs.Words.{freeWords};
 ghost use Rattle.ods1.specs.Arguments.{idOf};
 
 // The extent of a file from a VBN on: its LBN, and how many blocks lie in a row.

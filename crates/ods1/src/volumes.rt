@@ -1,9 +1,9 @@
 // Opening a volume.
 use open_volume::open_volume;
-use read_words::put_opened;
+use volume_words::put_opened;
 ghost use mathlib.Core.Path.{_≡_};
 ghost use Rattle.open_volume.specs.Answer.{volumeAnswer};
-ghost use Rattle.read_words.specs.Words.{openedWords};
+ghost use Rattle.volume_words.specs.Words.{openedWords};
 
 // The LBN of a volume's home.
 #[no_mangle]

@@ -13,9 +13,9 @@ use lib.Seq.{drop-cons}
 use Rattle.image.specs.Words.{byteAt}
 use Rattle.radix50.specs.Table.{charOf, codeOf, isNameChar}
 use Rattle.radix50.specs.Words.{wordOf, codes}
-use Rattle.radix50.specs.Names.{blank, filled, kept}
+use Rattle.names.specs.Names.{blank, filled, kept}
 use Rattle.radix50.proofs.TableLaws.{coded, name-code, blank-code}
-use Rattle.radix50.proofs.NameLaws.{blank-kept}
+use Rattle.names.proofs.NameLaws.{blank-kept}
 use Rattle.parse.specs.Parse.{Part, codeAt, partWord}
 use Rattle.parse.proofs.ParseLaws.{code-in, code-past, code-small}
 

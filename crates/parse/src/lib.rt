@@ -1,6 +1,7 @@
 // The name of a text.
 use answer::refusal::Refusal;
 use answer::types::Name;
+use image::numbers::wide;
 use image::words::byte_or_zero;
 use radix50::code_of;
 use radix50::is_name_char;
@@ -69,13 +70,6 @@ fn number(d: &[u8]) -> u32
         i += 1;
     }
     v
-}
-
-// A byte as a number.
-fn wide(x: u8) -> u32
-    ensures { λ r. ⌜ r ≡ x ⌝ }
-{
-    x as u32
 }
 
 // The name of a name part, a type part and what follows the semicolon.

@@ -2,6 +2,7 @@
 use answer::types::Lbn;
 use header::fields::m_use;
 use header::fields::map_area;
+use image::numbers::wide;
 use image::words::word_at;
 ghost use mathlib.Core.Path.{_≡_};
 ghost use Prim.Native.Nat.{_+_, _≤_, _<_, _^_};
@@ -22,13 +23,6 @@ pub struct Spot {
     pub pointer: usize,
     // How far into the pointer's blocks the block lies, from 0; past the last block, how far past.
     pub offset: u32,
-}
-
-// A byte's value.
-pub fn wide(x: u8) -> u32
-    ensures { λ r. ⌜ (r ≡ x) × (r < 256) ⌝ }
-{
-    x as u32
 }
 
 // The first LBN of the pointer at a byte of the header.

@@ -1,3 +1,1 @@
 pub mod TableLaws
-pub mod NameLaws
-pub mod ProperLaws

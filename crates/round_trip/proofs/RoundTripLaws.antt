@@ -16,9 +16,9 @@ use Rattle.answer.specs.declared.refusal.Refusal.{Refusal}
 use Rattle.answer.specs.declared.refusal.Refusal.the-variants as refusal
 use Rattle.radix50.specs.Table.{isNameChar, isDigit}
 use Rattle.radix50.specs.Words.{codes}
-use Rattle.radix50.specs.Names.{blank, filled, kept, nameCodes, proper}
+use Rattle.names.specs.Names.{blank, filled, kept, nameCodes, proper}
 use Rattle.radix50.proofs.TableLaws.{code-char}
-use Rattle.radix50.proofs.NameLaws.{filled-some, kept-most}
+use Rattle.names.proofs.NameLaws.{filled-some, kept-most}
 use Rattle.parse.specs.declared.Named.{Named}
 use Rattle.parse.specs.declared.Named.the-variants.{Done, Refused}
 use Rattle.text.specs.Text.{decimal, textOf, nameText}

@@ -8,7 +8,7 @@ use lib.ListN.{length}
 use Rattle.answer.specs.declared.types.Name.{Name}
 use Rattle.radix50.specs.Table.{charOf, nothing, codeOf}
 use Rattle.radix50.specs.Words.{wordOf, codes}
-use Rattle.radix50.specs.Names.{proper}
+use Rattle.names.specs.Names.{proper}
 use Rattle.parse.specs.declared.Named.the-variants.{Done}
 use Rattle.text.specs.Text.{nameText}
 use Rattle.parse.specs.Parse.{textToName}

@@ -22,9 +22,9 @@ use Rattle.extents.proofs.ExtentLaws.{extent-refused}
 use Rattle.update.specs.Extend.{extendOutcome, extended, extendAnswer}
 use Rattle.update.specs.Delete.{deleteOutcome, deleted, deleteAnswer}
 use Rattle.update.proofs.PassedLaws.{extend-passed, delete-passed}
-use Rattle.read_words.specs.Words.{openedFileWords, mappedWords, blockWords, foundWords, steppedWords}
+use Rattle.file_words.specs.Words.{openedFileWords, mappedWords, blockWords, describedWords, extentWords}
+use Rattle.directory_words.specs.Words.{foundWords, steppedWords}
 use Rattle.change_words.specs.Words.{extendedWords, deletedWords}
-use Rattle.fact_words.specs.Words.{describedWords, extentWords}
 use Rattle.sequence.specs.Sequence.{OtherSequence, IsRefused, SequenceAsked}
 
 -- What opening a file is refused with.

@@ -15,9 +15,9 @@ use Rattle.file_facts.specs.Files.{fileAnswer}
 use Rattle.extents.specs.Extents.{extentAnswer}
 use Rattle.update.specs.Extend.{extendAnswer}
 use Rattle.update.specs.Delete.{deleteAnswer}
-use Rattle.read_words.specs.Words.{openedFileWords, mappedWords, blockWords, foundWords, steppedWords}
+use Rattle.file_words.specs.Words.{openedFileWords, mappedWords, blockWords, describedWords, extentWords}
+use Rattle.directory_words.specs.Words.{foundWords, steppedWords}
 use Rattle.change_words.specs.Words.{extendedWords, deletedWords}
-use Rattle.fact_words.specs.Words.{describedWords, extentWords}
 
 -- The sequence number of the ID is not H.FSEQ of the header in the slot of its number.
 abbrev pub OtherSequence : List ℕ → FileId → Type 0

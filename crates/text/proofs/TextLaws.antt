@@ -14,8 +14,8 @@ use Rattle.image.specs.Stores.{splice}
 use Rattle.image.proofs.StoreLaws.{splice-none, splice-splice}
 use Rattle.answer.specs.declared.types.Name.{Name}
 use Rattle.radix50.specs.Words.{codes}
-use Rattle.radix50.specs.Names.{nameCodes}
-use Rattle.radix50.proofs.NameLaws.{kept-most}
+use Rattle.names.specs.Names.{nameCodes}
+use Rattle.names.proofs.NameLaws.{kept-most}
 use Rattle.text.specs.Text.{digits, decimal, textOf, nameText}
 
 -- ---- what is written behind what was written

@@ -10,7 +10,7 @@ use Rattle.image.specs.Stores.{splice}
 use Rattle.answer.specs.declared.types.Name.{Name}
 use Rattle.answer.specs.declared.refusal.Refusal.the-variants as refusal
 use Rattle.radix50.specs.Words.{codes}
-use Rattle.radix50.specs.Names.{kept, nameCodes, proper}
+use Rattle.names.specs.Names.{kept, nameCodes, proper}
 use Rattle.text.specs.declared.Written.{Written}
 use Rattle.text.specs.declared.Written.the-variants.{Done, Refused}
 

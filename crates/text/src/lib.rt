@@ -1,17 +1,17 @@
 // A name as text.
 use answer::refusal::Refusal;
 use answer::types::Name;
+use names::filled_length;
+use names::is_proper_parts;
+use names::name_codes;
 use radix50::char_of;
 use radix50::codes_of;
-use radix50::filled_length;
-use radix50::is_proper_parts;
-use radix50::name_codes;
 ghost use mathlib.Core.Path.{_≡_};
 ghost use mathlib.Core.Bool.{true};
 ghost use Prim.Native.Nat.{_+_, _≤_, _<_};
 ghost use lib.ListN.{length};
 ghost use Rattle.image.specs.Stores.{splice};
-ghost use Rattle.radix50.specs.Names.{filled, kept};
+ghost use Rattle.names.specs.Names.{filled, kept};
 ghost use Rattle.text.specs.Text.{decimal, textOf, nameToText, textAfter};
 
 // The length of a text that was written, or the refusal.

@@ -13,7 +13,7 @@ use Rattle.answer.specs.declared.refusal.Refusal.the-variants as refusal
 use Rattle.answer.specs.declared.outcome.Outcome.the-variants.{Passed}
 use Rattle.answer.specs.Outcome.{_then_}
 use Rattle.answer.proofs.OutcomeLaws.{passed-then, passed-first, passed-last}
-use Rattle.radix50.specs.Names.{proper}
+use Rattle.names.specs.Names.{proper}
 use Rattle.header.specs.Fields.{hFseq}
 use Rattle.volume.specs.Volume.{fmax, slots, hasSlot, header, inUse, isNumber}
 use Rattle.open_file.specs.Opening.{openFile}

@@ -9,7 +9,7 @@ use Rattle.answer.specs.declared.refusal.Refusal.the-variants as refusal
 use Rattle.answer.specs.declared.outcome.Outcome.{Outcome}
 use Rattle.answer.specs.declared.outcome.Outcome.the-variants as outcome
 use Rattle.answer.specs.Outcome.{unless, _then_}
-use Rattle.radix50.specs.Names.{proper}
+use Rattle.names.specs.Names.{proper}
 use Rattle.fresh_header.specs.Fresh.{freshHeader}
 use Rattle.volume.specs.Volume.{ibsz, iblb, fmax, slot}
 use Rattle.verdict.specs.Verdict.{verdict, afterwards}

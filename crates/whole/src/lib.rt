@@ -1,13 +1,13 @@
 // Whether a header is whole: the first test that it does not meet.
 use header::fields::m_efnu;
 use header::fields::m_efsq;
+use image::numbers::wide;
 use image::sums::checksum;
 use image::words::word_at;
 use pointers::first_pointer;
 use pointers::pointer_count;
 use pointers::pointer_lbn;
 use pointers::pointer_number;
-use pointers::wide;
 ghost use mathlib.Core.Path.{_≡_};
 ghost use mathlib.Core.Bool.{true};
 ghost use Prim.Native.Nat.{_+_, _≤_, _<_};

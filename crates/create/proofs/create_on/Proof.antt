@@ -5,7 +5,7 @@ use mathlib.Core.Bool.{true}
 use native.Mathlib.Omega.{arith}
 use denote.Ref.{now}
 use borrow.Author.Tests.{not-true, not-false}
-use Rattle.radix50.specs.Names.{proper}
+use Rattle.names.specs.Names.{proper}
 use Rattle.volume.proofs.VolumeLaws.{says}
 use Rattle.verdict.specs.Verdict.{afterwards}
 use Rattle.update.specs.Create.{created}

@@ -4,7 +4,7 @@ use mathlib.Core.Path.{_≡_, sym, ap, _∙_}
 use mathlib.Core.Bool.{true}
 use native.Mathlib.Omega.{arith}
 use denote.Ref.{now}
-use Rattle.radix50.specs.Names.{proper}
+use Rattle.names.specs.Names.{proper}
 use Rattle.records.specs.declared.Entry.{Entry}
 use Rattle.records.specs.declared.Wanted.the-variants.{Named}
 use Rattle.directory.specs.Search.{FileOpen, firstWanted}

@@ -39,7 +39,7 @@ mul-v : tie.Need-mul-v Inv-loop μ-loop
 mul-v c = omega (arith, tens (c .before .before .before .before .loop .i) (omega arith))
 
 add-v : tie.Need-add-v Inv-loop μ-loop
-add-v c = omega (arith, tens (c .before .before .before .before .before .loop .i) (omega arith), c .wide .ensures)
+add-v c = omega (arith, tens (c .before .before .before .before .before .loop .i) (omega arith), c .wide .ensures .0)
 
 loop-again : tie.Need-loop-again Inv-loop μ-loop
 loop-again c =
@@ -47,9 +47,9 @@ loop-again c =
     let d = now (l .before .before .args .d) in
     let i = l .loop .i in (
       search needs,
-      omega (arith, c .wide .ensures, value-more d i),
+      omega (arith, c .wide .ensures .0, value-more d i),
       rw (digits-to-more d i, l .loop .inv .2) (digit-in (byteAt d i) (omega arith) (omega arith)),
-      rw (add-one i) (omega (arith, pow-suc 10 i, c .wide .ensures)),
+      rw (add-one i) (omega (arith, pow-suc 10 i, c .wide .ensures .0)),
     )
 
 returns-3 : tie.Need-returns-3 Inv-loop μ-loop

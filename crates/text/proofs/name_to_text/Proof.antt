@@ -6,8 +6,8 @@ use Prim.Native.Nat.{_≤_}
 use denote.Ref.{now}
 use borrow.Author.Tests.{lt-ltb, le-ltb}
 use lib.ListN.{length}
-use Rattle.radix50.specs.Names.{proper}
-use Rattle.radix50.proofs.ProperLaws.{proper-parts, parts-known, part-known}
+use Rattle.names.specs.Names.{proper}
+use Rattle.names.proofs.ProperLaws.{proper-parts, parts-known, part-known}
 use Rattle.text.specs.Text.{nameText, nameToText, textAfter}
 use Rattle.text.proofs.TextLaws.{name-text-most}
 use Rattle.text.proofs.name_to_text.Statement.{statement}

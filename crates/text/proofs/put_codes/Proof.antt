@@ -8,8 +8,8 @@ use denote.Ref.{now}
 use lib.ListN.{length, length-set}
 use lib.Seq.{paste, paste-zero, paste-suc}
 use Rattle.image.proofs.StoreLaws.{paste-splice}
-use Rattle.radix50.specs.Names.{kept}
-use Rattle.radix50.proofs.NameLaws.{kept-most}
+use Rattle.names.specs.Names.{kept}
+use Rattle.names.proofs.NameLaws.{kept-most}
 use Rattle.parse.proofs.PartLaws.{kept-char}
 use Rattle.text.proofs.put_codes.Statement.{statement}
 use Rattle.text.proofs.put_codes.Tie as tie

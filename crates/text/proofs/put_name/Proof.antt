@@ -7,7 +7,7 @@ use Prim.Native.Nat.{_+_}
 use denote.Ref.{now}
 use lib.ListN.{length, length-set}
 use Rattle.image.proofs.StoreLaws.{set-splice}
-use Rattle.radix50.specs.Names.{kept}
+use Rattle.names.specs.Names.{kept}
 use Rattle.text.specs.Text.{decimal, textOf}
 use Rattle.text.proofs.TextLaws.{Wrote, wrote-none, wrote-on, decimal-most}
 use Rattle.text.proofs.put_name.Statement.{statement}

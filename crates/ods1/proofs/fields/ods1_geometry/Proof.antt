@@ -1,7 +1,7 @@
 -- The words of what the call answered.
 use borrow.Author.Needs.{needs}
 use mathlib.Core.Path.{ap, _∙_}
-use Rattle.fact_words.specs.Words.{laidWords}
+use Rattle.volume_words.specs.Words.{laidWords}
 use Rattle.ods1.proofs.fields.ods1_geometry.Statement.{statement}
 use Rattle.ods1.proofs.fields.ods1_geometry.Tie as tie
 

@@ -1,7 +1,7 @@
 -- The words of what the call answered.
 use borrow.Author.Needs.{needs}
 use mathlib.Core.Path.{ap, _∙_}
-use Rattle.fact_words.specs.Words.{labelledWords}
+use Rattle.volume_words.specs.Words.{labelledWords}
 use Rattle.ods1.proofs.fields.ods1_label.Statement.{statement}
 use Rattle.ods1.proofs.fields.ods1_label.Tie as tie
 

@@ -1,7 +1,7 @@
 -- The words of what the call answered.
 use borrow.Author.Needs.{needs}
 use mathlib.Core.Path.{ap, _∙_}
-use Rattle.fact_words.specs.Words.{pointedWords}
+use Rattle.header_words.specs.Words.{pointedWords}
 use Rattle.ods1.proofs.fields.ods1_pointer.Statement.{statement}
 use Rattle.ods1.proofs.fields.ods1_pointer.Tie as tie
 

@@ -1,7 +1,7 @@
 -- The words of what the call answered.
 use borrow.Author.Needs.{needs}
 use mathlib.Core.Path.{ap, _∙_}
-use Rattle.fact_words.specs.Words.{extentWords}
+use Rattle.file_words.specs.Words.{extentWords}
 use Rattle.ods1.proofs.space.ods1_extent.Statement.{statement}
 use Rattle.ods1.proofs.space.ods1_extent.Tie as tie
 

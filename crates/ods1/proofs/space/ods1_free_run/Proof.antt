@@ -1,7 +1,7 @@
 -- The words of what the call answered.
 use borrow.Author.Needs.{needs}
 use mathlib.Core.Path.{ap, _∙_}
-use Rattle.fact_words.specs.Words.{freeWords}
+use Rattle.volume_words.specs.Words.{freeWords}
 use Rattle.ods1.proofs.space.ods1_free_run.Statement.{statement}
 use Rattle.ods1.proofs.space.ods1_free_run.Tie as tie
 

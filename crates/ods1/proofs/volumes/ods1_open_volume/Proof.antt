@@ -1,7 +1,7 @@
 -- The words of what the call answered.
 use borrow.Author.Needs.{needs}
 use mathlib.Core.Path.{ap, _∙_}
-use Rattle.read_words.specs.Words.{openedWords}
+use Rattle.volume_words.specs.Words.{openedWords}
 use Rattle.ods1.proofs.volumes.ods1_open_volume.Statement.{statement}
 use Rattle.ods1.proofs.volumes.ods1_open_volume.Tie as tie
 

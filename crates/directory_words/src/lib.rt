@@ -1,0 +1,65 @@
+// The answer words of the calls on a directory.
+use answer::words::put_done;
+use answer::words::put_refused;
+use look_up::Found;
+use look_up::Stepped;
+ghost use mathlib.Core.Path.{_≡_};
+ghost use Rattle.directory_words.specs.Words.{foundWords, steppedWords};
+
+// The words of an ID that was looked up.
+pub fn put_found(answer: &mut [u64; 12], found: Found)
+    ensures { λ _. ⌜ now (answer .exit) ≡ foundWords found ⌝ }
+{
+    match found {
+        Found::Done(id) => {
+            put_done(
+                answer,
+                [
+                    id.number as u64,
+                    id.sequence as u64,
+                    id.volume as u64,
+                    0,
+                    0,
+                    0,
+                    0,
+                    0,
+                    0,
+                    0,
+                ],
+            );
+        }
+        Found::Refused(r) => {
+            put_refused(answer, r);
+        }
+    }
+}
+
+// The words of a record and of the place to go on from.
+pub fn put_stepped(answer: &mut [u64; 12], stepped: Stepped)
+    ensures { λ _. ⌜ now (answer .exit) ≡ steppedWords stepped ⌝ }
+{
+    match stepped {
+        Stepped::Done(e, next) => {
+            let i = e.id;
+            let n = e.name;
+            put_done(
+                answer,
+                [
+                    i.number as u64,
+                    i.sequence as u64,
+                    i.volume as u64,
+                    n.name1 as u64,
+                    n.name2 as u64,
+                    n.name3 as u64,
+                    n.typ as u64,
+                    n.version as u64,
+                    next as u64,
+                    0,
+                ],
+            );
+        }
+        Stepped::Refused(r) => {
+            put_refused(answer, r);
+        }
+    }
+}

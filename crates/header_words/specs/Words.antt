@@ -1,0 +1,30 @@
+-- The answer words of the calls on the header of a file number.
+use Prim.Native.Nat.{ℕ}
+use mathlib.Core.List.{List, [], _∷_}
+use Rattle.answer.specs.Words.{doneWords, refusedWords}
+use Rattle.header_facts.specs.declared.Shown.{Shown}
+use Rattle.header_facts.specs.declared.Shown.the-variants as shown
+use Rattle.header_facts.specs.declared.Pointed.{Pointed}
+use Rattle.header_facts.specs.declared.Pointed.the-variants as pointed
+
+-- H.FSEQ, segment number, M.EFNU, M.EFSQ, how many retrieval pointers, and the five words of the name in the ident area.
+abbrev pub shownWords : Shown → List ℕ
+shownWords (shown.Done f) =
+    doneWords (
+    f .sequence
+    ∷ f .segment
+    ∷ f .next
+    ∷ f .«next_sequence»
+    ∷ f .pointers
+    ∷ f .name .name1
+    ∷ f .name .name2
+    ∷ f .name .name3
+    ∷ f .name .typ
+    ∷ f .name .version
+    ∷ [])
+shownWords (shown.Refused r) = refusedWords r
+
+-- The first LBN that the retrieval pointer covers, and how many it covers.
+abbrev pub pointedWords : Pointed → List ℕ
+pointedWords (pointed.Done lbn count) = doneWords (lbn .0 ∷ count ∷ [])
+pointedWords (pointed.Refused r) = refusedWords r

@@ -1,0 +1,51 @@
+// The answer words of the calls on the header of a file number.
+use answer::words::put_done;
+use answer::words::put_refused;
+use header_facts::Pointed;
+use header_facts::Shown;
+ghost use mathlib.Core.Path.{_≡_};
+ghost use Rattle.header_words.specs.Words.{shownWords, pointedWords};
+
+// The words of what a header says.
+pub fn put_shown(answer: &mut [u64; 12], shown: Shown)
+    ensures { λ _. ⌜ now (answer .exit) ≡ shownWords shown ⌝ }
+{
+    match shown {
+        Shown::Done(f) => {
+            let n = f.name;
+            put_done(
+                answer,
+                [
+                    f.sequence as u64,
+                    f.segment as u64,
+                    f.next as u64,
+                    f.next_sequence as u64,
+                    f.pointers as u64,
+                    n.name1 as u64,
+                    n.name2 as u64,
+                    n.name3 as u64,
+                    n.typ as u64,
+                    n.version as u64,
+                ],
+            );
+        }
+        Shown::Refused(r) => {
+            put_refused(answer, r);
+        }
+    }
+}
+
+// The words of a retrieval pointer.
+pub fn put_pointed(answer: &mut [u64; 12], pointed: Pointed)
+    ensures { λ _. ⌜ now (answer .exit) ≡ pointedWords pointed ⌝ }
+{
+    match pointed {
+        Pointed::Done(lbn, count) => {
+            let first = lbn.0;
+            put_done(answer, [first as u64, count as u64, 0, 0, 0, 0, 0, 0, 0, 0]);
+        }
+        Pointed::Refused(r) => {
+            put_refused(answer, r);
+        }
+    }
+}

@@ -1,0 +1,24 @@
+-- The words of the case that there is.
+use borrow.Author.Needs.{needs}
+use mathlib.Core.Path.{ap, sym, _∙_}
+use Rattle.volume_words.specs.Words.{openedWords}
+use Rattle.volume_words.proofs.put_opened.Statement.{statement}
+use Rattle.volume_words.proofs.put_opened.Tie as tie
+
+returns : tie.Need-returns
+returns c = c .put-done .ensures ∙ ap openedWords (sym (c .before .before .before .opened .given .1))
+
+returns-2 : tie.Need-returns-2
+returns-2 c = c .put-refused .ensures ∙ ap openedWords (sym (c .before .before .before .opened2 .given .1))
+
+pub put-opened-spec : {M : Type 1} → statement M
+put-opened-spec =
+    tie.close
+    (tie.spec
+    (search needs)
+    (search needs)
+    (search needs)
+    (search needs)
+    (search needs)
+    returns
+    returns-2)
