@@ -32,10 +32,11 @@ fn raise_chain(image: &[u8], v: Volume, places: &Places, area: &mut [u8])
     let mut h = header_of(image, v, places, FileNumber(3));
     loop {
         raise_header(h, area);
-        if m_efnu(h) == 0 {
+        let n = m_efnu(h) as u32;
+        if n == 0 {
             return;
         }
-        let next = next_header(image, v, places, h);
+        let next = next_header(image, v, places, h, FileNumber(n));
         h = next;
     }
 }

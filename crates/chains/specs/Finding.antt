@@ -1,4 +1,5 @@
 -- Finding the header of a number on an opened volume: NUMBER, HEADER.
+use mathlib.Core.Path.{_≡_}
 use mathlib.Core.List.{List}
 use Prim.Native.Nat.{ℕ}
 use lib.Dec.{eqb}
@@ -8,13 +9,11 @@ use Rattle.answer.specs.declared.outcome.Outcome.the-variants as outcome
 use Rattle.answer.specs.Outcome.{unless, _then_}
 use Rattle.volume.specs.Volume.{faultOf, isNumber}
 use Rattle.chains.specs.declared.Finding.{Finding}
-use Rattle.chains.specs.declared.Finding.the-variants as findings
 
 -- 01, Answer numbers: "7 NUMBER | 0, above H.FMAX, no slot, not in use"; "8 HEADER | not whole". HEADER carries the first unmet test.
 unfoldable pub findNumber : List ℕ → ℕ → Outcome
 findNumber image n = unless (isNumber image n) refusal.Number then unless (eqb (faultOf image n) 0) (refusal.Header (faultOf image n))
 
--- What finding a header comes to: the LBN that it lies at, or the refusal.
-unfoldable pub finding : Outcome → ℕ → Finding
-finding outcome.Passed lbn = findings.At (record { 0 = lbn })
-finding (outcome.Refused r) lbn = findings.Refused r
+-- What finding a header comes to: its outcome and, where that is passed, the LBN that the header lies at.
+abbrev pub Finds : Outcome → ℕ → Finding → Type 0
+Finds result lbn f = (f .outcome ≡ result) × (result ≡ outcome.Passed → f .header .0 ≡ lbn)

@@ -1,4 +1,5 @@
 // The chain of a file's headers: its links, its blocks, and its members.
+use answer::outcome::Outcome;
 use answer::refusal::Refusal;
 use answer::types::FileNumber;
 use answer::types::Lbn;
@@ -18,11 +19,13 @@ ghost use mathlib.Core.Path.{_≡_};
 ghost use mathlib.Core.Bool.{true};
 ghost use Prim.Native.Nat.{_<_};
 ghost use lib.ListN.{length, getD};
+ghost use Rattle.answer.specs.declared.outcome.Outcome.the-variants as outcome;
 ghost use Rattle.header.specs.Fields.{mEfnu};
+ghost use Rattle.home.specs.Home.{blocks};
 ghost use Rattle.volume.specs.Volume.{slot, header, isNumber};
-ghost use Rattle.volume.specs.Opening.{Recorded};
+ghost use Rattle.volume.specs.Opening.{openVolume, Recorded};
 ghost use Rattle.chains.specs.Chains.{slotInUse, goodLink, linkFrom, NextHeader, goodChain, IsFirst, fileBlocks, chainBlocks};
-ghost use Rattle.chains.specs.Finding.{findNumber, finding};
+ghost use Rattle.chains.specs.Finding.{findNumber, Finds};
 ghost use Rattle.chains.specs.Members.{Lists};
 
 // The numbers of a chain's headers and the LBNs of their slots, in the chain's order; what lies past the count says nothing.
@@ -61,10 +64,10 @@ pub fn members_of(image: &[u8], v: Volume, places: &Places, n: FileNumber, lbn: 
 }
 
 // What finding a header comes to.
-pub enum Finding {
-    // It lies at this LBN.
-    At(Lbn),
-    Refused(Refusal),
+pub struct Finding {
+    pub outcome: Outcome,
+    // The LBN of the header; it says nothing where the outcome is a refusal.
+    pub header: Lbn,
 }
 
 // Where the link of a header leads.
@@ -96,21 +99,34 @@ pub fn slot_in_use(image: &[u8], v: Volume, places: &Places, n: FileNumber) -> S
     }
 }
 
-// Finding the header of a number on an opened volume: NUMBER, HEADER.
-pub fn find_number(image: &[u8], v: Volume, places: &Places, n: FileNumber) -> Finding
-    requires { ⌜ Recorded (now image) v (now places) ⌝ }
-    ensures { λ r. ⌜ r ≡ finding (findNumber (now (image .entry)) (n .0)) (slot (now (image .entry)) (n .0)) ⌝ }
+// A header that is not found.
+pub fn unfound(r: Refusal) -> Finding
+    ensures { λ f. ⌜ f .outcome ≡ outcome.Refused r ⌝ }
 {
-    let place = slot_in_use(image, v, places, n);
+    Finding {
+        outcome: Outcome::Refused(r),
+        header: Lbn(0),
+    }
+}
+
+// Finding the header of a number on an opened volume of so many blocks, where its slot in use was looked for: NUMBER, HEADER. The compiler puts this
+// into each of its callers; with the search for the slot it would be too large for that.
+pub fn find_number(image: &[u8], total: u32, n: FileNumber, place: Slot) -> Finding
+    requires { ⌜ (openVolume (now image) ≡ outcome.Passed) × (total ≡ blocks (now image)) × (place ≡ slotInUse (now image) (n .0)) ⌝ }
+    ensures { λ r. ⌜ Finds (findNumber (now (image .entry)) (n .0)) (slot (now (image .entry)) (n .0)) r ⌝ }
+{
     match place {
         Slot::At(lbn) => {
-            let unmet = fault(block(image, lbn.0), v.blocks, n.0);
+            let unmet = fault(block(image, lbn.0), total, n.0);
             if unmet != 0 {
-                return Finding::Refused(Refusal::Header(unmet));
+                return unfound(Refusal::Header(unmet));
             }
-            Finding::At(lbn)
+            Finding {
+                outcome: Outcome::Passed,
+                header: lbn,
+            }
         }
-        Slot::Missing => Finding::Refused(Refusal::Number),
+        Slot::Missing => unfound(Refusal::Number),
     }
 }
 
@@ -145,12 +161,18 @@ pub fn header_of<'a>(image: &'a [u8], v: Volume, places: &Places, n: FileNumber)
     block(image, slot_at(image, v, places, n).0)
 }
 
-// The header that header h links to, where it links to one and its link is good.
-pub fn next_header<'a>(image: &'a [u8], v: Volume, places: &Places, h: &[u8]) -> &'a [u8]
-    requires { ⌜ Recorded (now image) v (now places) × (mEfnu (now h) ≡ 0 → ⊥) × (goodLink (now image) (now h) ≡ true) ⌝ }
+// The header that header h links to by M.EFNU, which is n and not 0, where its link is good.
+pub fn next_header<'a>(
+    image: &'a [u8],
+    v: Volume,
+    places: &Places,
+    h: &[u8],
+    n: FileNumber,
+) -> &'a [u8]
+    requires { ⌜ Recorded (now image) v (now places) × (n .0 ≡ mEfnu (now h)) × (mEfnu (now h) ≡ 0 → ⊥) × (goodLink (now image) (now h) ≡ true) ⌝ }
     ensures { λ r. ⌜ NextHeader (now (image .entry)) (now (h .entry)) (now r) ⌝ }
 {
-    header_of(image, v, places, FileNumber(m_efnu(h) as u32))
+    header_of(image, v, places, n)
 }
 
 // What the chain of the file whose first header has number n and lies at this LBN comes to, by one walk over its headers. Most headers have no link,
@@ -195,7 +217,7 @@ pub fn lbn_at(image: &[u8], v: Volume, places: &Places, n: FileNumber, lbn: Lbn,
             return Lbn(lbn_in(h, left));
         }
         left -= count;
-        let next = next_header(image, v, places, h);
+        let next = next_header(image, v, places, h, FileNumber(m_efnu(h) as u32));
         h = next;
     }
 }

@@ -89,10 +89,11 @@ pub fn search_file(
         }
         place = start + r;
         start += 32 * count;
-        if m_efnu(h) == 0 {
+        let n = m_efnu(h) as u32;
+        if n == 0 {
             return place;
         }
-        let next = next_header(image, v, places, h);
+        let next = next_header(image, v, places, h, FileNumber(n));
         h = next;
     }
 }

@@ -4,8 +4,8 @@ use answer::refusal::Refusal;
 use answer::types::FileNumber;
 use answer::types::Lbn;
 use answer::types::Name;
-use chains::Finding;
 use chains::find_number;
+use chains::slot_in_use;
 use header::fields::h_fseq;
 use header::fields::m_efnu;
 use header::fields::m_efsq;
@@ -75,10 +75,13 @@ fn show_header_on(image: &[u8], v: Volume, places: &Places, n: FileNumber) -> Sh
     requires { ⌜ Recorded (now image) v (now places) ⌝ }
     ensures { λ r. ⌜ r ≡ headerAnswer (now (image .entry)) (n .0) ⌝ }
 {
-    let found = find_number(image, v, places, n);
-    match found {
-        Finding::At(lbn) => Shown::Done(facts_of(block(image, lbn.0))),
-        Finding::Refused(r) => Shown::Refused(r),
+    let place = slot_in_use(image, v, places, n);
+    let found = find_number(image, v.blocks, n, place);
+    let lbn = found.header;
+    let result = found.outcome;
+    match result {
+        Outcome::Passed => Shown::Done(facts_of(block(image, lbn.0))),
+        Outcome::Refused(r) => Shown::Refused(r),
     }
 }
 
@@ -101,9 +104,12 @@ fn show_pointer_on(image: &[u8], v: Volume, places: &Places, n: FileNumber, p: u
     requires { ⌜ Recorded (now image) v (now places) ⌝ }
     ensures { λ r. ⌜ r ≡ pointerAnswer (now (image .entry)) (n .0) p ⌝ }
 {
-    let found = find_number(image, v, places, n);
-    match found {
-        Finding::At(lbn) => {
+    let place = slot_in_use(image, v, places, n);
+    let found = find_number(image, v.blocks, n, place);
+    let lbn = found.header;
+    let result = found.outcome;
+    match result {
+        Outcome::Passed => {
             let h = block(image, lbn.0);
             if (pointer_number(h) as u32) <= p {
                 return Pointed::Refused(Refusal::Absent);
@@ -111,7 +117,7 @@ fn show_pointer_on(image: &[u8], v: Volume, places: &Places, n: FileNumber, p: u
             let at = first_pointer(h) + 4 * (p as usize);
             Pointed::Done(Lbn(pointer_lbn(h, at)), pointer_count(h, at))
         }
-        Finding::Refused(r) => Pointed::Refused(r),
+        Outcome::Refused(r) => Pointed::Refused(r),
     }
 }
 

@@ -8,6 +8,8 @@ use chains::Chain;
 use chains::Finding;
 use chains::chain_blocks;
 use chains::find_number;
+use chains::slot_in_use;
+use chains::unfound;
 use header::fields::h_fseq;
 use header::fields::segment;
 use header::flags::is_locked;
@@ -24,7 +26,7 @@ ghost use Rattle.header.specs.Flags.{locked};
 ghost use Rattle.volume.specs.Volume.{slot};
 ghost use Rattle.volume.specs.Opening.{Recorded};
 ghost use Rattle.chains.specs.Chains.{IsFirst};
-ghost use Rattle.chains.specs.Finding.{finding};
+ghost use Rattle.chains.specs.Finding.{Finds};
 ghost use Rattle.open_file.specs.Opening.{find, access, chained, openFile, Tells, TellsPlaces, openAnswer};
 
 // The answer of opening a file.
@@ -48,24 +50,31 @@ pub struct OpenFile {
 // Finding the header: RELVOL, NUMBER, HEADER, SEQUENCE, SEGMENT.
 fn find(image: &[u8], v: Volume, places: &Places, id: FileId) -> Finding
     requires { ⌜ Recorded (now image) v (now places) ⌝ }
-    ensures { λ r. ⌜ r ≡ finding (find (now (image .entry)) id) (slot (now (image .entry)) (id .number)) ⌝ }
+    ensures { λ r. ⌜ Finds (find (now (image .entry)) id) (slot (now (image .entry)) (id .number)) r ⌝ }
 {
     if id.volume != 0 {
-        return Finding::Refused(Refusal::Relvol);
+        return unfound(Refusal::Relvol);
     }
-    let found = find_number(image, v, places, FileNumber(id.number as u32));
-    match found {
-        Finding::At(lbn) => {
+    let n = FileNumber(id.number as u32);
+    let place = slot_in_use(image, v, places, n);
+    let found = find_number(image, v.blocks, n, place);
+    let lbn = found.header;
+    let result = found.outcome;
+    match result {
+        Outcome::Passed => {
             let h = block(image, lbn.0);
             if h_fseq(h) != id.sequence {
-                return Finding::Refused(Refusal::Sequence);
+                return unfound(Refusal::Sequence);
             }
             if segment(h) != 0 {
-                return Finding::Refused(Refusal::Segment);
+                return unfound(Refusal::Segment);
             }
-            Finding::At(lbn)
+            Finding {
+                outcome: Outcome::Passed,
+                header: lbn,
+            }
         }
-        Finding::Refused(r) => Finding::Refused(r),
+        Outcome::Refused(r) => unfound(r),
     }
 }
 
@@ -115,15 +124,17 @@ pub fn open_on(image: &[u8], v: Volume, places: &Places, id: FileId) -> OpenFile
     ensures { λ r. ⌜ Tells (now (image .entry)) id (find (now (image .entry)) id then access (now (image .entry)) id then chained (now (image .entry)) id) r ⌝ }
 {
     let found = find(image, v, places, id);
-    match found {
-        Finding::At(lbn) => {
+    let lbn = found.header;
+    let result = found.outcome;
+    match result {
+        Outcome::Passed => {
             let admitted = access(block(image, lbn.0));
             match admitted {
                 Outcome::Passed => open_chain(image, v, places, id, lbn),
                 Outcome::Refused(r) => refused(v, r),
             }
         }
-        Finding::Refused(r) => refused(v, r),
+        Outcome::Refused(r) => refused(v, r),
     }
 }
 

@@ -9,7 +9,8 @@ use borrow.Author.Tests.{lt-ltb, le-ltb}
 use lib.ListN.{length, getD, length-append, List·getD-append, List·getD-eq-default}
 use lib.Seq.{getD-append-add}
 use Rattle.lists.proofs.NumbersLaws.{numbersFrom-length, numbersFrom-at}
-use Rattle.pointers.specs.Pointers.{pointerLbn, pointerCount, run, runs, placeIn}
+use Rattle.pointers.specs.Pointers.{pointerLbn, pointerCount, run, runs, pointersAt, pointers, blocksOf, InPointer, placeIn}
+use Rattle.answer.specs.declared.types.Lbn.{Lbn}
 use Rattle.pointers.specs.declared.Place.{Place}
 use Rattle.pointers.specs.declared.Place.the-variants.{At, Past}
 
@@ -88,3 +89,27 @@ module _ (h : List ℕ) (at : ℕ) where
 
   pub runs-inside : (p k i : ℕ) → p < k → i < pointerCount h (at + 4 * p) → length (runs h at p) + i < length (runs h at k)
   runs-inside p k i l m = omega (arith, runs-length p, runs-le (p + 1) k (omega arith))
+
+-- Place o of pointer p, by the blocks of the pointers before it.
+pub in-pointer : (h : List ℕ) (p o lbn left : ℕ) → p < pointers h → o < pointerCount h (pointersAt h + 4 * p) → lbn ≡ pointerLbn h (pointersAt h + 4 * p) + o
+    → left ≡ pointerCount h (pointersAt h + 4 * p) - o → InPointer h (length (runs h (pointersAt h) p) + o) lbn left p
+unfolding blocksOf
+in-pointer h p o lbn left l m first e =
+    let at = pointersAt h in
+    let k = pointers h in
+    record {
+      some = omega arith;
+      used = l;
+      end = omega (arith, runs-length h at p);
+      inside = omega (arith, runs-inside h at p k (o + (left - 1)) l (omega arith));
+      row = λ j s. ap (λ (x : ℕ). getD (runs h at k) x 0) (omega arith) ∙ runs-at h at p k (o + j) l (omega arith) ∙ omega arith;
+    }
+
+-- The place that a spot is.
+pub spot-at : (h : List ℕ) (i : ℕ) (lbn : Lbn) (left p : ℕ) → InPointer h i (lbn .0) left p → At lbn ≡ placeIn (blocksOf h) i
+spot-at h i lbn left p s =
+    let e : getD (blocksOf h) i 0 ≡ lbn .0 = ap (λ (x : ℕ). getD (blocksOf h) x 0) (omega arith) ∙ s .row 0 (s .some) ∙ omega arith in
+    rw (place-at (blocksOf h) i (omega (arith, s .some, s .inside)), e)
+
+pub spot-past : (h : List ℕ) (i more : ℕ) → i ≡ length (blocksOf h) + more → Past more ≡ placeIn (blocksOf h) i
+spot-past h i more e = rw (place-past (blocksOf h) i (omega arith)) (ap Past (omega arith))

@@ -9,6 +9,7 @@ use Rattle.lists.specs.Lists.{numbersFrom}
 use Rattle.image.specs.Words.{byteAt, wordAt}
 use Rattle.header.specs.Fields.{mapArea, mUse}
 use Rattle.pointers.specs.declared.Spot.{Spot}
+use Rattle.pointers.specs.declared.Spot.the-variants as spots
 use Rattle.pointers.specs.declared.Place.{Place}
 use Rattle.pointers.specs.declared.Place.the-variants.{At, Past}
 
@@ -45,12 +46,18 @@ Fits h = pointersAt h + 4 * pointers h ≤ length h
 unfoldable pub blocksOf : List ℕ → List ℕ
 blocksOf h = runs h (pointersAt h) (pointers h)
 
--- The block at place i, from 0, of those that a header covers is that of this pointer, so far into it.
-pub record SpotOf (h : List ℕ) (i : ℕ) (spot : Spot) : Type 0 where
-  pub most : spot .pointer ≤ pointers h
-  pub place : i ≡ length (runs h (pointersAt h) (spot .pointer)) + spot .offset
-  pub inside : spot .pointer < pointers h → spot .offset < pointerCount h (pointersAt h + 4 * spot .pointer)
-  pub few : spot .pointer < pointers h → spot .offset < 256
+-- Place i, from 0, of the blocks that a header covers: from there on so many blocks lie in a row from an LBN on, up to the end of this pointer.
+pub record InPointer (h : List ℕ) (i lbn left pointer : ℕ) : Type 0 where
+  pub some : 1 ≤ left
+  pub used : pointer < pointers h
+  pub end : i + left ≡ length (runs h (pointersAt h) (pointer + 1))
+  pub inside : i + left ≤ length (blocksOf h)
+  pub row : (j : ℕ) → j < left → getD (blocksOf h) (i + j) 0 ≡ lbn + j
+
+-- Where place i, from 0, lies among the pointers of a header.
+abbrev pub SpotOf : List ℕ → ℕ → Spot → Type 0
+SpotOf h i (spots.In lbn left pointer) = InPointer h i (lbn .0) left pointer
+SpotOf h i (spots.Past more) = i ≡ length (blocksOf h) + more
 
 -- The block at a place, from 0, of a list of LBNs; or how far the place lies past them.
 unfoldable pub placeIn : List ℕ → ℕ → Place

@@ -17,12 +17,12 @@ pub enum Place {
     Past(u32),
 }
 
-// Which pointer of a header has a block.
-pub struct Spot {
-    // The pointer, from 0; past the last block, the number of pointers.
-    pub pointer: usize,
-    // How far into the pointer's blocks the block lies, from 0; past the last block, how far past.
-    pub offset: u32,
+// Where a place, from 0, lies among the pointers of a header.
+pub enum Spot {
+    // At this block. So many blocks of its pointer are left, it among them, and the pointer is this one, from 0.
+    In(Lbn, u32, usize),
+    // Past the last, by so many.
+    Past(u32),
 }
 
 // The first LBN of the pointer at a byte of the header.
@@ -72,24 +72,25 @@ pub fn block_count(h: &[u8]) -> u32
     count as u32
 }
 
-// Which pointer has the block at place i, from 0, of the blocks that the header covers, and how far into it that block lies.
+// Where place i, from 0, lies among the pointers of a header.
 pub fn spot_of(h: &[u8], i: u32) -> Spot
     requires { ⌜ Fits (now h) ⌝ }
     ensures { λ r. ⌜ SpotOf (now (h .entry)) i r ⌝ }
 {
     let at = first_pointer(h);
     let number = pointer_number(h);
-    let mut offset = i;
-    let mut pointer: usize = 0;
-    while pointer < number {
-        let count = pointer_count(h, at + 4 * pointer);
-        if offset < count {
-            return Spot { pointer, offset };
+    let mut left = i;
+    let mut p: usize = 0;
+    while p < number {
+        let count = pointer_count(h, at + 4 * p);
+        if left < count {
+            let from = pointer_lbn(h, at + 4 * p);
+            return Spot::In(Lbn(from + left), count - left, p);
         }
-        offset -= count;
-        pointer += 1;
+        left -= count;
+        p += 1;
     }
-    Spot { pointer, offset }
+    Spot::Past(left)
 }
 
 // Where a place, from 0, lies in the blocks that the header covers.
@@ -98,11 +99,10 @@ pub fn place_of(h: &[u8], i: u32) -> Place
     ensures { λ r. ⌜ r ≡ placeIn (blocksOf (now (h .entry))) i ⌝ }
 {
     let spot = spot_of(h, i);
-    if spot.pointer < pointer_number(h) {
-        let from = pointer_lbn(h, first_pointer(h) + 4 * spot.pointer);
-        return Place::At(Lbn(from + spot.offset));
+    match spot {
+        Spot::In(lbn, _, _) => Place::At(lbn),
+        Spot::Past(more) => Place::Past(more),
     }
-    Place::Past(spot.offset)
 }
 
 // The LBN of block i, from 0, of those that the header covers; 0 past the last.

@@ -81,10 +81,11 @@ pub fn row_of(image: &[u8], v: Volume, places: &Places, n: FileNumber, lbn: Lbn,
     let mut row = Row::Ahead(i);
     loop {
         row = row_over(h, row);
-        if m_efnu(h) == 0 {
+        let n = m_efnu(h) as u32;
+        if n == 0 {
             return row;
         }
-        let next = next_header(image, v, places, h);
+        let next = next_header(image, v, places, h, FileNumber(n));
         h = next;
     }
 }

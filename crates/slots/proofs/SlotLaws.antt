@@ -14,8 +14,8 @@ use Rattle.image.specs.Words.{Bytes}
 use Rattle.image.specs.Blocks.{region, block}
 use Rattle.image.specs.Bits.{bitAt}
 use Rattle.image.proofs.BlockLaws.{block-length}
-use Rattle.pointers.specs.Pointers.{pointerLbn, pointerCount, runs, pointersAt, pointers, blocksOf}
-use Rattle.pointers.proofs.PointerLaws.{runs-none, runs-length, runs-at, runs-inside}
+use Rattle.pointers.specs.Pointers.{pointerLbn, pointerCount, runs, pointersAt, pointers, blocksOf, InPointer}
+use Rattle.pointers.proofs.PointerLaws.{runs-none, runs-length, in-pointer}
 use Rattle.home.specs.Home.{blocks}
 use Rattle.volume.specs.Volume.{ibsz, fmax, indexHeader, places, index, slot, slots, header, indexMap, inUse}
 use Rattle.pointers.specs.Pointers.{flat}
@@ -27,13 +27,12 @@ use Rattle.volume.proofs.VolumeLaws.{Opens, index-file, headers-lie, headers-fi
 use Rattle.slots.specs.declared.SlotRun.{SlotRun}
 use Rattle.slots.specs.Slots.{RunOf, blocksBefore, Begins, Stands, gathered}
 
--- What is left of pointer p, among the blocks of k pointers.
-pub run-here : (h : List ℕ) (at p k i : ℕ) (run : SlotRun) → p < k → i < pointerCount h (at + 4 * p)
-    → run .lbn .0 ≡ pointerLbn h (at + 4 * p) + i → run .left ≡ pointerCount h (at + 4 * p) - i → RunOf (runs h at k) (length (runs h at p) + i) run
-run-here h at p k i run l m first left = record {
-  has = λ j s. omega (arith, runs-inside h at p k (i + j) l (omega arith));
-  row = λ j s. ap (λ (x : ℕ). getD (runs h at k) x 0) (omega arith) ∙ runs-at h at p k (i + j) l (omega arith) ∙ omega arith;
-  none = λ z. absurd (omega arith);
+-- What is left of a pointer.
+pub run-spot : (h : List ℕ) (i p : ℕ) (run : SlotRun) → InPointer h i (run .lbn .0) (run .left) p → RunOf (blocksOf h) i run
+run-spot h i p run s = record {
+  has = λ j m. omega (arith, m, s .inside);
+  row = s .row;
+  none = λ z. absurd (omega (arith, z, s .some));
 }
 
 -- None are left past the last block.
@@ -144,10 +143,10 @@ module _ (image : List ℕ) (o : Opens image) (n k p : ℕ) (b : Begins image n 
       some : 1 ≤ c
       some = omega (arith, left)
 
-      here : RunOf (runs h (pointersAt h) (pointers h)) (length (runs h (pointersAt h) p)) (record { lbn = record { 0 = l }; left = c; segment = k; pointer = p })
+      here : RunOf (blocksOf h) (length (runs h (pointersAt h) p)) (record { lbn = record { 0 = l }; left = c; segment = k; pointer = p })
       here =
           let e : length (runs h (pointersAt h) p) ≡ length (runs h (pointersAt h) p) + 0 = omega arith in
-          rw e (run-here h (pointersAt h) p (pointers h) 0 _ more (omega arith) (omega arith) (omega arith))
+          rw e (run-spot h _ p _ (in-pointer h p 0 l c more (omega arith) (omega (arith, first)) (omega (arith, left))))
 
   -- Past the last pointer of a header the next header begins, and past the last header there are no slots.
   pub begins-next : k < length (places image) → pointers h ≤ p → Begins image n (k + 1) 0

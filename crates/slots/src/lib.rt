@@ -4,6 +4,7 @@ use answer::types::FileNumber;
 use answer::types::Lbn;
 use image::blocks::block;
 use image::blocks::block_inside;
+use pointers::Spot;
 use pointers::first_pointer;
 use pointers::pointer_count;
 use pointers::pointer_lbn;
@@ -38,20 +39,19 @@ fn run_at(h: &[u8], i: u32) -> SlotRun
         × (i + r .left ≡ length (runs (now (h .entry)) (pointersAt (now (h .entry))) (r .pointer + 1)))) ⌝ }
 {
     let spot = spot_of(h, i);
-    if spot.pointer < pointer_number(h) {
-        let at = first_pointer(h) + 4 * spot.pointer;
-        return SlotRun {
-            lbn: Lbn(pointer_lbn(h, at) + spot.offset),
-            left: pointer_count(h, at) - spot.offset,
+    match spot {
+        Spot::In(lbn, left, pointer) => SlotRun {
+            lbn,
+            left,
             segment: 0,
-            pointer: spot.pointer,
-        };
-    }
-    SlotRun {
-        lbn: Lbn(0),
-        left: 0,
-        segment: 1,
-        pointer: 0,
+            pointer,
+        },
+        Spot::Past(_) => SlotRun {
+            lbn: Lbn(0),
+            left: 0,
+            segment: 1,
+            pointer: 0,
+        },
     }
 }
 

@@ -80,7 +80,7 @@ returns c =
     own (c .before) ∙ raised-end (image l) (area l) (l .loop .area) (h l) (at l) (omega (arith, c .before .m-efnu .ensures))
 
 next-header-requires : tie.Need-next-header-requires Inv-loop μ-loop
-next-header-requires c κs = (s (loop (c .before)) .pre .0, some c, good c)
+next-header-requires c κs = (s (loop (c .before)) .pre .0, c .before .m-efnu .ensures, some c, good c)
 
 loop-less : tie.Need-loop-less Inv-loop μ-loop
 loop-less c = omega (arith, c .next-header .ensures .higher, c .next-header .ensures .low)
@@ -96,4 +96,4 @@ same-length c =
     raised-longer (image l) (area l) (l .loop .area) (h l) (at l) _ (own (c .before))
 
 pub raise-chain-spec : {M : Type 1} → statement M
-raise-chain-spec = tie.close (tie.spec Inv-loop μ-loop header-of-requires loop-holds raise-header-requires (search needs) same-length returns next-header-requires loop-less loop-again)
+raise-chain-spec = tie.close (tie.spec Inv-loop μ-loop header-of-requires loop-holds raise-header-requires (search needs) (search needs) same-length returns next-header-requires loop-less loop-again)

@@ -69,20 +69,20 @@ returns c =
 
 next-header-requires : tie.Need-next-header-requires Inv-loop μ-loop
 next-header-requires c κs =
-    let b = c .before in
-    let p : b .block-count .result ≤ b .before .loop .left = omega (arith, c .if1 .left) in
-    (b .before .before .before .before .pre .0, some b p, good b p)
+    let b = c .before .before in
+    let p : b .block-count .result ≤ b .before .loop .left = omega (arith, c .before .if1 .left) in
+    (b .before .before .before .before .pre .0, c .m-efnu .ensures, some b p, good b p)
 
 loop-less : tie.Need-loop-less Inv-loop μ-loop
 loop-less c = omega (arith, c .next-header .ensures .higher, c .next-header .ensures .low)
 
 loop-again : tie.Need-loop-again Inv-loop μ-loop
 loop-again c =
-    let b = c .before .before in
+    let b = c .before .before .before in
     let l = b .before in
     let a = l .before .before .before .args in
     let e = l .loop .inv .0 in
-    let p : b .block-count .result ≤ l .loop .left = omega (arith, c .before .if1 .left) in (
+    let p : b .block-count .result ≤ l .loop .left = omega (arith, c .before .before .if1 .left) in (
       omega (arith, e),
       λ n w.
           walk-same _ _ _ _ _ (walk-next (now (a .image)) n (now (l .loop .h)) (a .i - l .loop .left) (l .loop .inv .1 n w) _ (c .next-header .ensures)) (omega (arith, p, e, b .block-count .ensures .0)),
@@ -91,5 +91,5 @@ loop-again c =
 pub lbn-at-spec : {M : Type 1} → statement M
 lbn-at-spec =
     tie.close
-    (tie.spec Inv-loop μ-loop (search needs) loop-holds block-count-requires lbn-in-requires returns
+    (tie.spec Inv-loop μ-loop (search needs) loop-holds block-count-requires lbn-in-requires returns (search needs) (search needs)
     next-header-requires loop-less loop-again)

@@ -90,7 +90,7 @@ returns-2 c =
     search-range _ _ _ _ _ (omega arith) _ (rw (at l .1, turn t _ (at l .0) .on (omega arith)) (sym none))
 
 next-header-requires : tie.Need-next-header-requires Inv-loop μ-loop
-next-header-requires c κs = (c .before .before .before .before .before .before .before .before .pre .0 .0, some c, good c)
+next-header-requires c κs = (c .before .before .before .before .before .before .before .before .pre .0 .0, c .before .m-efnu .ensures, some c, good c)
 
 loop-less : tie.Need-loop-less Inv-loop μ-loop
 loop-less c = omega (arith, c .next-header .ensures .higher, c .next-header .ensures .low)
@@ -116,5 +116,5 @@ pub search-file-spec : {M : Type 1} → statement M
 search-file-spec =
     tie.close
     (tie.spec Inv-loop μ-loop (search needs) loop-holds block-count-requires (search needs) (search needs) search-header-requires
-    (search needs) (search needs) returns (search needs) (search needs) (search needs) (search needs) returns-2
+    (search needs) (search needs) returns (search needs) (search needs) (search needs) (search needs) (search needs) returns-2
     next-header-requires loop-less loop-again)

@@ -4,11 +4,12 @@ use mathlib.Core.Path.{_≡_, sym, ap, _∙_}
 use native.Mathlib.Omega.{arith}
 use denote.Ref.{now}
 use Rattle.image.specs.Blocks.{block}
+use Rattle.answer.specs.declared.outcome.Outcome.the-variants.{Passed}
 use Rattle.header.specs.Fields.{hFseq, segment}
 use Rattle.volume.specs.Volume.{slot, header}
-use Rattle.chains.specs.declared.Finding.the-variants.{At}
+use Rattle.volume.proofs.VolumeLaws.{says}
 use Rattle.chains.specs.Finding.{findNumber}
-use Rattle.chains.proofs.FindingLaws.{Found, found, finding-at, finding-refused}
+use Rattle.chains.proofs.FindingLaws.{finds-refused}
 use Rattle.open_file.specs.Opening.{find}
 use Rattle.open_file.proofs.OpeningLaws.{find-relvol, find-unfound, find-sequence, find-segment, found-passed}
 use Rattle.open_file.proofs.find.Statement.{statement}
@@ -17,73 +18,80 @@ use Rattle.open_file.proofs.find.Tie as tie
 relvol : (c : tie.Else1) → c .before .before .before .args .id .volume ≡ 0
 relvol c = omega arith
 
--- The header that was found.
-lies : (c : tie.After-found) → let a = c .before .before .before .before .before .before .before .args in
-    Found (findNumber (now (a .image)) (a .id .number)) (slot (now (a .image)) (a .id .number)) (At (c .found .given .0 .0))
-lies c =
-    let s = c .before .before in
-    let a = s .before .before .before .before .before .args in
-    found (findNumber (now (a .image)) (a .id .number)) (slot (now (a .image)) (a .id .number)) _ (sym (c .found .given .1) ∙ s .find-number .ensures)
+-- The header that was found, and where it lies.
+module _ (c : tie.After-enum-told) where
+  abbrev else : tie.Else1
+  else = c .before .before .before .before .before .before
 
-named : (c : tie.After-block) → let a = c .before .before .before .before .before .before .before .before .before .args in now (c .block .result) ≡ header (now (a .image)) (a .id .number)
+  abbrev start : tie.Start
+  start = else .before .before .before
+
+  passed : findNumber (now (start .args .image)) (start .args .id .number) ≡ Passed
+  passed = sym (c .before .before .before .find-number .ensures .0) ∙ c .enum-told .given .1
+
+  lies : c .before .before .before .find-number .result .header .0 ≡ slot (now (start .args .image)) (start .args .id .number)
+  lies = c .before .before .before .find-number .ensures .1 passed
+
+named : (c : tie.After-block) → let a = start (c .before) .args in now (c .block .result) ≡ header (now (a .image)) (a .id .number)
 unfolding header
-named c =
-    let p = c .before .before in
-    c .block .ensures ∙ ap (block (now (p .before .before .before .before .before .before .before .args .image))) (omega (arith, lies p))
+named c = c .block .ensures ∙ ap (block (now (start (c .before) .args .image))) (lies (c .before))
+
+slot-in-use-requires : tie.Need-slot-in-use-requires
+slot-in-use-requires c κs = c .before .before .before .before .pre
 
 find-number-requires : tie.Need-find-number-requires
-find-number-requires c κs = c .before .before .before .before .pre
+find-number-requires c κs =
+    let start = c .before .before .before .before .before in
+    (start .pre .0, says (now (start .args .image)) (start .args .v) (start .pre .1) .blocks, c .slot-in-use .ensures)
 
 returns : tie.Need-returns
 returns c =
-    let a = c .before .before .before .args in
-    finding-refused (find (now (a .image)) (a .id)) _ _ (find-relvol (now (a .image)) (a .id) (omega arith))
+    let a = c .before .before .before .before .args in
+    finds-refused (find (now (a .image)) (a .id)) _ _ _ (c .unfound .ensures) (find-relvol (now (a .image)) (a .id) (omega arith))
 
 returns-2 : tie.Need-returns-2
 returns-2 c =
-    let q = c .before .before in
+    let q = c .before .before .before in
     let b = q .before in
-    let p = b .before .before in
-    let e = p .before .before .before .before in
-    let a = e .before .before .before .args in
-    finding-refused (find (now (a .image)) (a .id)) _ _ (find-sequence (now (a .image)) (a .id) (relvol e) (lies p .0) (omega (arith, q .h-fseq .ensures, ap hFseq (named b))))
+    let t = b .before in
+    let a = start t .args in
+    finds-refused (find (now (a .image)) (a .id)) _ _ _ (c .unfound2 .ensures)
+    (find-sequence (now (a .image)) (a .id) (relvol (else t)) (passed t) (omega (arith, c .before .if2 .taken, q .h-fseq .ensures, ap hFseq (named b))))
 
 returns-3 : tie.Need-returns-3
 returns-3 c =
-    let t = c .before .before in
-    let q = t .before .before in
+    let x = c .before .before .before in
+    let q = x .before .before in
     let b = q .before in
-    let p = b .before .before in
-    let e = p .before .before .before .before in
-    let a = e .before .before .before .args in
-    finding-refused (find (now (a .image)) (a .id)) _ _
-    (find-segment (now (a .image)) (a .id) (relvol e) (lies p .0) (omega (arith, t .if2 .left, q .h-fseq .ensures, ap hFseq (named b)))
-    (omega (arith, c .before .segment .ensures, ap segment (named b))))
+    let t = b .before in
+    let a = start t .args in
+    finds-refused (find (now (a .image)) (a .id)) _ _ _ (c .unfound3 .ensures)
+    (find-segment (now (a .image)) (a .id) (relvol (else t)) (passed t) (omega (arith, x .if2 .left, q .h-fseq .ensures, ap hFseq (named b)))
+    (omega (arith, c .before .if3 .taken, c .before .before .segment .ensures, ap segment (named b))))
 
 returns-4 : tie.Need-returns-4
 returns-4 c =
-    let t = c .before .before in
-    let q = t .before .before in
+    let x = c .before .before in
+    let q = x .before .before in
     let b = q .before in
-    let p = b .before .before in
-    let e = p .before .before .before .before in
-    let a = e .before .before .before .args in
-    finding-at (find (now (a .image)) (a .id)) _
-    (found-passed (now (a .image)) (a .id) (relvol e) (lies p .0) (omega (arith, t .if2 .left, q .h-fseq .ensures, ap hFseq (named b)))
-    (omega (arith, c .before .segment .ensures, ap segment (named b))))
-    _ (lies p .1)
+    let t = b .before in
+    let a = start t .args in (
+      sym (found-passed (now (a .image)) (a .id) (relvol (else t)) (passed t) (omega (arith, x .if2 .left, q .h-fseq .ensures, ap hFseq (named b)))
+          (omega (arith, c .if3 .left, c .before .segment .ensures, ap segment (named b)))),
+      λ e. lies t,
+    )
 
 returns-5 : tie.Need-returns-5
 returns-5 c =
-    let p = c .before in
-    let s = p .before .before in
-    let e = s .before .before in
+    let r = c .before .before in
+    let s = r .before .before .before in
+    let e = s .before .before .before in
     let a = e .before .before .before .args in
-    finding-refused (find (now (a .image)) (a .id)) _ _
-    (find-unfound (now (a .image)) (a .id) (relvol e) _ (found (findNumber (now (a .image)) (a .id .number)) (slot (now (a .image)) (a .id .number)) _ (sym (p .found2 .given .1) ∙ s .find-number .ensures)))
+    finds-refused (find (now (a .image)) (a .id)) _ _ _ (c .unfound4 .ensures)
+    (find-unfound (now (a .image)) (a .id) (relvol e) _ (sym (s .find-number .ensures .0) ∙ r .result .given .1))
 
 pub find-spec : {M : Type 1} → statement M
 find-spec =
     tie.close
-    (tie.spec returns (search needs) find-number-requires (search needs) (search needs) (search needs) returns-2 (search needs)
-    returns-3 (search needs) returns-4 returns-5)
+    (tie.spec (search needs) returns (search needs) slot-in-use-requires find-number-requires (search needs) (search needs) (search needs) (search needs) returns-2
+    (search needs) (search needs) returns-3 (search needs) (search needs) returns-4 returns-5)

@@ -51,7 +51,7 @@ returns c =
     turn-end _ _ _ _ _ (at (o .before)) _ (o .row-over .ensures) (omega (arith, c .before .m-efnu .ensures))
 
 next-header-requires : tie.Need-next-header-requires Inv-loop μ-loop
-next-header-requires c κs = (c .before .before .before .before .before .before .pre .0, some c, good c)
+next-header-requires c κs = (c .before .before .before .before .before .before .pre .0, c .before .m-efnu .ensures, some c, good c)
 
 loop-less : tie.Need-loop-less Inv-loop μ-loop
 loop-less c = omega (arith, c .next-header .ensures .higher, c .next-header .ensures .low)
@@ -64,5 +64,5 @@ loop-again c n w =
 pub row-of-spec : {M : Type 1} → statement M
 row-of-spec =
     tie.close
-    (tie.spec Inv-loop μ-loop (search needs) loop-holds row-over-requires (search needs) returns next-header-requires
+    (tie.spec Inv-loop μ-loop (search needs) loop-holds row-over-requires (search needs) (search needs) returns next-header-requires
     loop-less loop-again)
