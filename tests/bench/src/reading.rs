@@ -33,9 +33,7 @@ fn volume(plan: Plan, headers: u16, blocks: u32, directory: u32) -> Volume {
         Header::new(4, 4, vec![records]),
         Header::new(5, 5, vec![]),
     ] {
-        volume.add(File {
-            headers: vec![header],
-        });
+        volume.add(File::of(header));
     }
     volume.add(readings_file(start + directory, headers, blocks));
     put_records(&mut volume, directory);
@@ -54,20 +52,9 @@ fn readings_file(start: u32, headers: u16, blocks: u32) -> File {
             lbn: start + place * (blocks + 1),
             blocks,
         });
-        let last = segment + 1 == headers;
-        Header {
-            segment: segment as u8,
-            link: if last {
-                (0, 0)
-            } else {
-                (number + segment + 1, sequence)
-            },
-            ..Header::new(number + segment, sequence, pointers.collect())
-        }
+        Header::new(number + segment, sequence, pointers.collect())
     };
-    File {
-        headers: (0..headers).map(header).collect(),
-    }
+    File::chain((0..headers).map(header))
 }
 
 /// Fills the directory with records, all of other names than the one that is looked up.

@@ -68,14 +68,12 @@ fn full_volume(plan: Plan, files: Files) -> Volume {
         Header::new(4, 4, vec![]),
         Header::new(5, 5, vec![]),
     ] {
-        volume.add(File {
-            headers: vec![header],
-        });
+        volume.add(File::of(header));
     }
     let last = volume.last_slot().min(volume.plan.h_fmax.into()) as u16 - files.unused;
     for first in (6..=last).step_by(files.headers.into()) {
         let numbers = first..=last.min(first + files.headers - 1);
-        let headers = (0..).zip(numbers.clone()).map(|(segment, number)| {
+        volume.add(File::chain(numbers.map(|number| {
             let pointers = (0..files.pointers).map(|_| {
                 let lbn = next;
                 next += files.blocks + files.gap;
@@ -84,18 +82,8 @@ fn full_volume(plan: Plan, files: Files) -> Volume {
                     blocks: files.blocks,
                 }
             });
-            Header {
-                segment,
-                link: if number == *numbers.end() {
-                    (0, 0)
-                } else {
-                    (number + 1, 7)
-                },
-                ..Header::new(number, 7, pointers.collect())
-            }
-        });
-        let headers = headers.collect();
-        volume.add(File { headers });
+            Header::new(number, 7, pointers.collect())
+        })));
     }
     assert!(next <= volume.plan.blocks, "the blocks are enough");
     volume.put_storage_map();

@@ -123,9 +123,7 @@ fn with_h_fmax(h_fmax: u16) -> Volume {
         (4, vec![]),
         (5, vec![]),
     ] {
-        volume.add(File {
-            headers: vec![Header::new(number, number, pointers)],
-        });
+        volume.add(File::of(Header::new(number, number, pointers)));
     }
     volume.put_storage_map();
     volume

@@ -49,13 +49,10 @@ fn large_volume(plan: Plan) -> Volume {
         Header::new(4, 4, vec![pointer(blocks / 2, 2), pointer(blocks / 4, 1)]),
         Header::new(5, 5, vec![]),
     ] {
-        volume.add(File {
-            headers: vec![header],
-        });
+        volume.add(File::of(header));
     }
     let last = volume.last_slot().min(volume.plan.h_fmax.into()) as u16;
     let first = Header {
-        link: (last - 1, 0),
         facts: Some(FACTS),
         ..Header::new(
             last,
@@ -64,13 +61,10 @@ fn large_volume(plan: Plan) -> Volume {
         )
     };
     let second = Header {
-        segment: 1,
         areas: Areas::LARGEST,
         ..Header::new(last - 1, 0, vec![pointer(blocks - 256, 256); MOST_POINTERS])
     };
-    volume.add(File {
-        headers: vec![first, second],
-    });
+    volume.add(File::chain([first, second]));
     let record = Record {
         id: [last, 65_535, 0],
         name: name_words("READS.DAT;1"),
@@ -238,27 +232,16 @@ fn longest_file() -> Volume {
     let storage = pointers_of(&plan.storage_lbns());
     let mut volume = Volume::new(plan, vec![0; 512 * 700]);
     for header in [Header::new(1, 1, index), Header::new(2, 2, storage)] {
-        volume.add(File {
-            headers: vec![header],
-        });
+        volume.add(File::of(header));
     }
     let pointer = Pointer {
         lbn: 2,
         blocks: 256,
     };
-    let headers = (0..256).map(|segment: u16| Header {
-        segment: segment as u8,
-        link: if segment < 255 {
-            (7 + segment, 9)
-        } else {
-            (0, 0)
-        },
+    volume.add(File::chain((6..262).map(|number| Header {
         areas: Areas::LARGEST,
-        ..Header::new(6 + segment, 9, vec![pointer; MOST_POINTERS])
-    });
-    volume.add(File {
-        headers: headers.collect(),
-    });
+        ..Header::new(number, 9, vec![pointer; MOST_POINTERS])
+    })));
     volume
 }
 

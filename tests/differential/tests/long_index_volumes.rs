@@ -182,29 +182,16 @@ fn longest_index() -> Volume {
     first.resize(MOST_POINTERS, pointer(2, 256));
     let storage = pointers_of(&plan.storage_lbns());
     let mut volume = Volume::new(plan, vec![0; 512 * 700]);
-    let headers = (0..256).map(|segment: u16| Header {
-        segment: segment as u8,
-        link: if segment < 255 {
-            (6 + segment, 9)
-        } else {
-            (0, 0)
-        },
+    let further = vec![pointer(2, 256); MOST_POINTERS];
+    let further = (6..261).map(|number| Header::new(number, 9, further.clone()));
+    let headers = std::iter::once(Header::new(1, 1, first)).chain(further);
+    volume.add(File::chain(headers.map(|header| Header {
         areas: Areas::LARGEST,
-        ..match segment {
-            0 => Header::new(1, 1, first.clone()),
-            _ => Header::new(5 + segment, 9, vec![pointer(2, 256); MOST_POINTERS]),
-        }
-    });
-    volume.add(File {
-        headers: headers.collect(),
-    });
-    volume.add(File {
-        headers: vec![Header::new(2, 2, storage)],
-    });
+        ..header
+    })));
+    volume.add(File::of(Header::new(2, 2, storage)));
     for number in 3..=5 {
-        volume.add(File {
-            headers: vec![Header::new(number, number, Vec::new())],
-        });
+        volume.add(File::of(Header::new(number, number, Vec::new())));
     }
     volume
 }

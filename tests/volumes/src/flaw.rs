@@ -198,9 +198,7 @@ fn add_header(volume: &mut Volume, sequence: u16, segment: u8) -> Option<u16> {
         segment,
         ..Header::new(number, sequence, Vec::new())
     };
-    volume.add(File {
-        headers: vec![header],
-    });
+    volume.add(File::of(header));
     Some(number)
 }
 

@@ -85,21 +85,14 @@ pub fn hub(wanted: &Hub) -> Volume {
     let mut volume = Volume::new(plan, image);
     volume.put_label(LABEL);
     volume.add(index);
-    volume.add(one_header(Header::new(2, 2, storage)));
+    volume.add(File::of(Header::new(2, 2, storage)));
     volume.add(bad_blocks);
-    volume.add(one_header(directory_header(&mut land, numbers.len())));
-    volume.add(one_header(Header::new(5, 5, Vec::new())));
+    volume.add(File::of(directory_header(&mut land, numbers.len())));
+    volume.add(File::of(Header::new(5, 5, Vec::new())));
     add_files(&mut volume, &mut land, numbers);
     put_records(&mut volume);
     volume.put_storage_map();
     volume
-}
-
-/// A file of one header.
-fn one_header(header: Header) -> File {
-    File {
-        headers: vec![header],
-    }
 }
 
 /// The blocks that are still to be had, from the lowest on.
@@ -207,31 +200,21 @@ pub fn even_parts(plan: &Plan, headers: usize) -> Vec<u32> {
 fn index_file(plan: &Plan, parts: &[u32]) -> File {
     assert!((2..=256).contains(&parts.len()), "2 to 256 headers");
     let lbns = plan.index_lbns();
-    let mut names = vec![(1, 1)];
+    let mut numbers = Vec::new();
+    let mut shares = Vec::new();
     let mut mapped = 0;
-    let mut headers = Vec::new();
-    for (segment, &part) in parts.iter().enumerate() {
+    for &part in parts {
         assert!(part > 0, "each header maps a block");
-        let pointers = pointers_of(&lbns[mapped..mapped + part as usize]);
-        mapped += part as usize;
-        let last_slot = mapped as u32 - 2 - plan.index_map_blocks();
-        let name = names[segment];
-        let is_last = segment + 1 == parts.len();
-        let link = if is_last {
-            (0, 0)
-        } else {
-            let number = u16::try_from(last_slot).expect("a number");
-            (number, sequence_of(number))
+        let number = match mapped {
+            0 => 1,
+            _ => mapped - 2 - plan.index_map_blocks(),
         };
-        names.push(link);
-        headers.push(Header {
-            segment: segment as u8,
-            link,
-            areas: areas_for(pointers.len()),
-            ..Header::new(name.0, name.1, pointers)
-        });
+        numbers.push(u16::try_from(number).expect("a number"));
+        let end = mapped + part;
+        shares.push(pointers_of(&lbns[mapped as usize..end as usize]));
+        mapped = end;
     }
-    File { headers }
+    chain(&numbers, shares)
 }
 
 /// The usual areas where they have room for so many pointers, else the largest.
@@ -282,18 +265,11 @@ fn chain_numbers(numbers: &mut VecDeque<u16>, count: usize) -> Vec<u16> {
 
 /// A chain of headers, with the pointers of each.
 fn chain(numbers: &[u16], pointers: Vec<Vec<Pointer>>) -> File {
-    let links = numbers.iter().skip(1).map(|&it| (it, sequence_of(it)));
-    let links = links.chain([(0, 0)]);
-    let headers = numbers.iter().zip(links).zip(pointers).enumerate();
-    let headers = headers.map(|(segment, ((&number, link), pointers))| Header {
-        segment: segment as u8,
-        link,
+    let headers = numbers.iter().zip(pointers);
+    File::chain(headers.map(|(&number, pointers)| Header {
         areas: areas_for(pointers.len()),
         ..Header::new(number, sequence_of(number), pointers)
-    });
-    File {
-        headers: headers.collect(),
-    }
+    }))
 }
 
 /// File 3 with the home positions passed over, in as many headers as they need.

@@ -81,30 +81,14 @@ pub const HIGH_FACTS: Facts = Facts {
 fn bad_block_file(plan: &Plan) -> File {
     let mut positions = home_positions(plan.blocks);
     positions.retain(|&position| position < plan.home);
-    let shares: Vec<&[u32]> = positions.chunks(MOST_POINTERS).collect();
-    let count = shares.len().max(1);
-    let headers = (0..count).map(|place| {
-        let lbns = shares.get(place).copied().unwrap_or(&[]);
-        let number = |place: usize| BAD_BLOCKS + place as u16;
-        let (own, sequence) = if place == 0 {
-            (3, 3)
-        } else {
-            (number(place), 9)
-        };
-        Header {
-            segment: place as u8,
-            link: if place + 1 < count {
-                (number(place + 1), 9)
-            } else {
-                (0, 0)
-            },
-            areas: Areas::LARGEST,
-            ..Header::new(own, sequence, pointers_of(lbns))
-        }
-    });
-    File {
-        headers: headers.collect(),
-    }
+    let mut shares: Vec<Vec<Pointer>> = positions.chunks(MOST_POINTERS).map(pointers_of).collect();
+    shares.resize(shares.len().max(1), Vec::new());
+    let names = (1..).map(|place| (BAD_BLOCKS + place, 9));
+    let names = std::iter::once((3, 3)).chain(names);
+    File::chain(names.zip(shares).map(|(name, pointers)| Header {
+        areas: Areas::LARGEST,
+        ..Header::new(name.0, name.1, pointers)
+    }))
 }
 
 /// A sound volume of many blocks.
@@ -136,9 +120,7 @@ pub fn large_volume(plan: Plan) -> Volume {
         Header::new(OTHERS[0], 1, vec![]),
         Header::new(OTHERS[1].min(last), 0, vec![high(1_800)]),
     ] {
-        volume.add(File {
-            headers: vec![header],
-        });
+        volume.add(File::of(header));
     }
     volume.put_storage_map();
     volume
@@ -158,9 +140,7 @@ pub fn fill_but(volume: &mut Volume, first: u32, last: u32) {
             areas: Areas::LARGEST,
             ..Header::new(number, 1, pointers.to_vec())
         };
-        volume.add(File {
-            headers: vec![header],
-        });
+        volume.add(File::of(header));
     }
     volume.put_storage_map();
 }

@@ -172,17 +172,11 @@ fn index_file(random: &mut Random, plan: &Plan, parts: &[u32]) -> File {
             names.push((number, random_sequence(random)));
         }
     }
-    let links = names.iter().skip(1).copied().chain([(0, 0)]);
-    let headers = names.iter().zip(links).zip(shares).enumerate();
-    let headers = headers.map(|(segment, ((name, link), pointers))| Header {
-        segment: u8::try_from(segment).expect("at most 256 headers"),
-        link,
+    let headers = names.into_iter().zip(shares);
+    File::chain(headers.map(|(name, pointers)| Header {
         areas: Areas::random(random, pointers.len()),
         ..Header::new(name.0, name.1, pointers)
-    });
-    File {
-        headers: headers.collect(),
-    }
+    }))
 }
 
 /// A number from 6 to the last that has a slot so far and that no header before has: that last one, the

@@ -181,9 +181,7 @@ fn known_header(random: &mut Random, number: u16, pointers: Vec<Pointer>) -> Hea
 fn index_file(random: &mut Random, plan: &Plan) -> File {
     let mut pointers = pointers_of(&plan.index_lbns());
     cut_some(random, &mut pointers);
-    File {
-        headers: vec![known_header(random, 1, pointers)],
-    }
+    File::of(known_header(random, 1, pointers))
 }
 
 /// The header of file 2: one pointer, or two of which the first maps one block.
@@ -300,21 +298,15 @@ fn chain_of(
         names.push((number, random_sequence(random)));
     }
     let shares = share_out(random, pointers, count);
-    let links = names.iter().skip(1).copied().chain([(0, 0)]);
-    let mut headers = Vec::new();
-    for (segment, ((name, link), pointers)) in names.iter().zip(links).zip(shares).enumerate() {
+    File::chain(names.into_iter().zip(shares).map(|(name, pointers)| {
         let (user_flags, system_flags) = harmless_flags(random);
-        let areas = Areas::random(random, pointers.len());
-        headers.push(Header {
-            segment: u8::try_from(segment).expect("at most 256 headers"),
-            link,
+        Header {
             user_flags,
             system_flags,
-            areas,
+            areas: Areas::random(random, pointers.len()),
             ..Header::new(name.0, name.1, pointers)
-        });
-    }
-    File { headers }
+        }
+    }))
 }
 
 /// Shares pointers out to headers in order: evenly, so that each has one if there are enough.
@@ -358,9 +350,7 @@ pub(crate) fn volume_of(
     let index = index_file(random, &volume.plan);
     let storage = storage_header(random, &volume.plan);
     volume.add(index);
-    volume.add(File {
-        headers: vec![storage],
-    });
+    volume.add(File::of(storage));
     let mut numbers = free_numbers(random, &volume);
     volume.add(bad_block_file(
         random,

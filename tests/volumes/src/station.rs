@@ -358,9 +358,7 @@ impl Maker {
             if number == 4 {
                 header = directory_header(header);
             }
-            self.station.volume.add(File {
-                headers: vec![header],
-            });
+            self.station.volume.add(File::of(header));
         }
     }
 
@@ -374,9 +372,7 @@ impl Maker {
             let lbns = self.take_in_a_row(directory_blocks(drawer.entries()));
             let mut header = self.next_header(pointers_of(&lbns));
             header.facts = Some(block_facts(uic, header.blocks(), &name));
-            let file = File {
-                headers: vec![directory_header(header)],
-            };
+            let file = File::of(directory_header(header));
             self.station.directories.push(Directory {
                 name,
                 id: file.id(),
@@ -399,12 +395,11 @@ impl Maker {
     fn add_file(&mut self, directory: usize, name: &str) {
         let pointers = self.take_for_a_file();
         let lbns: Vec<u32> = pointers.iter().flat_map(|it| it.lbns()).collect();
-        let mut headers = self.headers_of(pointers);
+        let mut file = self.file_of(pointers);
         let uic = self.station.directories[directory].uic;
         let (facts, content) = self.write(uic, lbns.len() as u32, name);
-        headers[0].facts = Some(facts);
+        file.headers[0].facts = Some(facts);
         self.put_content(&lbns, &content);
-        let file = File { headers };
         self.station.files.push(Listed {
             entry: Entry {
                 directory,
@@ -454,9 +449,8 @@ impl Maker {
         Header::new(number, sequence, pointers)
     }
 
-    /// The headers of a file: one, and for every 200th file three, with a pointer in each if it has as
-    /// many blocks.
-    fn headers_of(&mut self, mut pointers: Vec<Pointer>) -> Vec<Header> {
+    /// A file of one header, and every 200th of three, with a pointer in each if it has as many blocks.
+    fn file_of(&mut self, mut pointers: Vec<Pointer>) -> File {
         let count = if self.station.files.len() % CHAINED == 0 {
             3
         } else {
@@ -465,12 +459,7 @@ impl Maker {
         cut(&mut self.random, &mut pointers, count);
         let share = pointers.len().div_ceil(count).max(1);
         let shares = (0..count).map(|place| pointers.chunks(share).nth(place).unwrap_or(&[]));
-        let mut headers: Vec<Header> = shares.map(|it| self.next_header(it.to_vec())).collect();
-        for segment in 1..count {
-            headers[segment].segment = segment as u8;
-            headers[segment - 1].link = (headers[segment].number, headers[segment].sequence);
-        }
-        headers
+        File::chain(shares.map(|it| self.next_header(it.to_vec())))
     }
 
     /// What a header says of a file, and what is in the file: readings of one length, or lines of text.

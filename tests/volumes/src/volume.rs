@@ -83,6 +83,27 @@ pub struct File {
 }
 
 impl File {
+    /// A file of one header, which stays as it is.
+    pub fn of(header: Header) -> File {
+        File {
+            headers: vec![header],
+        }
+    }
+
+    /// A file of headers in this order: each gets the segment of its place and a link to the next.
+    pub fn chain(headers: impl IntoIterator<Item = Header>) -> File {
+        let mut headers: Vec<Header> = headers.into_iter().collect();
+        let names = headers
+            .iter()
+            .map(|header| (header.number, header.sequence));
+        let links: Vec<(u16, u16)> = names.skip(1).chain([(0, 0)]).collect();
+        for (place, (header, link)) in headers.iter_mut().zip(links).enumerate() {
+            header.segment = u8::try_from(place).expect("at most 256 headers");
+            header.link = link;
+        }
+        File { headers }
+    }
+
     /// The number of its first header.
     pub fn number(&self) -> u16 {
         self.headers[0].number

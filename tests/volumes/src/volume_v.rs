@@ -46,9 +46,7 @@ pub fn volume_v() -> Volume {
             .iter()
             .map(|&(lbn, blocks)| Pointer { lbn, blocks });
         let header = Header::new(number, sequence, pointers.collect());
-        volume.add(File {
-            headers: vec![header],
-        });
+        volume.add(File::of(header));
     }
     put_end_of_file(volume.block_mut(6));
     let record = Record {

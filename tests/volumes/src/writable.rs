@@ -64,9 +64,7 @@ fn fill(random: &mut Random, volume: &mut Volume) {
         areas: Areas::random(random, pointers.len()),
         ..Header::new(number, random.word(), pointers)
     };
-    volume.add(File {
-        headers: vec![header],
-    });
+    volume.add(File::of(header));
     volume.put_storage_map();
 }
 

@@ -38,21 +38,17 @@ fn put_bad_blocks(volume: &mut Volume, shares: &[Vec<u32>]) -> Option<()> {
         volume.put_in_use(header.number, false);
     }
     let mut headers: Vec<Header> = Vec::new();
-    for (segment, lbns) in (0..).zip(shares) {
-        let (number, sequence) = match segment {
+    for (place, lbns) in (0..).zip(shares) {
+        let (number, sequence) = match place {
             0 => (3, 3),
-            _ => (unused_number(volume, &headers)?, 40 + u16::from(segment)),
+            _ => (unused_number(volume, &headers)?, 40 + place),
         };
-        if let Some(before) = headers.last_mut() {
-            before.link = (number, sequence);
-        }
         headers.push(Header {
-            segment,
             areas: Areas::LARGEST,
             ..Header::new(number, sequence, pointers_of(lbns))
         });
     }
-    volume.add(File { headers });
+    volume.add(File::chain(headers));
     Some(())
 }
 

@@ -49,13 +49,6 @@ fn one_more(volume: &Volume, headers: &[Header], lbns: &[u32]) -> Option<Header>
     })
 }
 
-/// Puts a header as a file of its own, whatever its segment is.
-fn add(volume: &mut Volume, header: Header) {
-    volume.add(File {
-        headers: vec![header],
-    });
-}
-
 /// The numbers of headers above a number.
 fn numbers_above(volume: &Volume, last: u32) -> Offenders {
     let numbers = volume.headers().map(|header| u32::from(header.number));
@@ -176,7 +169,7 @@ fn links() -> Vec<Flaw> {
                     ..Header::new(volume.unused_number()?, 6, Vec::new())
                 };
                 let number = other.number;
-                add(volume, other);
+                volume.add(File::of(other));
                 Some(vec![number.into()])
             },
         ),
@@ -193,7 +186,7 @@ fn twice_and_map() -> Vec<Flaw> {
                 let lbn = *volume.file(volume.roles.plain).lbns().first()?;
                 let more = one_more(volume, headers, &[lbn])?;
                 link_to(volume, last(headers).number, &more);
-                add(volume, more);
+                volume.add(File::of(more));
                 Some(vec![lbn])
             },
         ),
@@ -204,7 +197,7 @@ fn twice_and_map() -> Vec<Flaw> {
                 let lbns = [volume.slot_of(16), volume.slot_of(1)];
                 let more = one_more(volume, headers, &lbns)?;
                 link_to(volume, last(headers).number, &more);
-                add(volume, more);
+                volume.add(File::of(more));
                 Some(lbns.to_vec())
             },
         ),
@@ -215,7 +208,7 @@ fn twice_and_map() -> Vec<Flaw> {
                 let lbn = *free_lbns(volume).first()?;
                 let more = one_more(volume, headers, &[lbn])?;
                 link_to(volume, last(headers).number, &more);
-                add(volume, more);
+                volume.add(File::of(more));
                 Some(vec![lbn])
             },
         ),
@@ -240,7 +233,7 @@ fn sound() -> Vec<Flaw> {
             |volume, headers| {
                 let more = one_more(volume, headers, &[])?;
                 link_to(volume, last(headers).number, &more);
-                add(volume, more);
+                volume.add(File::of(more));
                 still_sound(volume)
             },
         ),
@@ -251,7 +244,7 @@ fn sound() -> Vec<Flaw> {
                 let free = free_lbns(volume);
                 let more = one_more(volume, headers, &free[..free.len().min(3)])?;
                 link_to(volume, last(headers).number, &more);
-                add(volume, more);
+                volume.add(File::of(more));
                 still_sound(volume)
             },
         ),
