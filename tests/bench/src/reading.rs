@@ -5,7 +5,7 @@ use crate::plain::Answer;
 use crate::table::{Line, Run};
 use std::cell::LazyCell;
 use volumes::directory::name_words;
-use volumes::header::{pointers_of, Areas, Header, Pointer};
+use volumes::header::{Areas, Header, Pointer};
 use volumes::shapes::{MOST_BLOCKS, RL02_BLOCKS};
 use volumes::volume::{File, Plan, Record, Volume};
 
@@ -17,8 +17,6 @@ pub const DIRECTORY: [u16; 3] = [4, 4, 0];
 
 /// A volume with a readings file of some headers with 102 pointers each, and a directory.
 fn volume(plan: Plan, headers: u16, blocks: u32, directory: u32) -> Volume {
-    let index = pointers_of(&plan.index_lbns());
-    let storage = pointers_of(&plan.storage_lbns());
     let image = vec![0; 512 * plan.blocks as usize];
     let start = plan.storage_map + plan.storage_map_blocks();
     let mut volume = Volume::new(plan, image);
@@ -26,15 +24,7 @@ fn volume(plan: Plan, headers: u16, blocks: u32, directory: u32) -> Volume {
         lbn: start,
         blocks: directory,
     };
-    for header in [
-        Header::new(1, 1, index),
-        Header::new(2, 2, storage),
-        Header::new(3, 3, vec![]),
-        Header::new(4, 4, vec![records]),
-        Header::new(5, 5, vec![]),
-    ] {
-        volume.add(File::of(header));
-    }
+    volume.add_known(Areas::USUAL, vec![], vec![records]);
     volume.add(readings_file(start + directory, headers, blocks));
     put_records(&mut volume, directory);
     volume.put_storage_map();

@@ -6,7 +6,7 @@
 //! have slots. The volumes here have such an index file; those of [`crate::hub`] have more headers in use.
 
 use volumes::header::{pointers_of, Areas, Header, Pointer};
-use volumes::shapes::{home_positions, MOST_BLOCKS, RL02_BLOCKS};
+use volumes::shapes::{passed_over, MOST_BLOCKS, RL02_BLOCKS};
 use volumes::volume::{File, Plan, Volume, FIRST_HEADERS, MAP_BITS};
 
 /// What the files from number 6 on are to be.
@@ -51,26 +51,12 @@ fn plan(blocks: u32, home: u32, h_fmax: u16, start: u32, slots: u32) -> Plan {
 
 /// A volume with every number that has a slot in use, but for the last ones that are to stay free.
 fn full_volume(plan: Plan, files: Files) -> Volume {
-    let index = pointers_of(&plan.index_lbns());
-    let storage = pointers_of(&plan.storage_lbns());
-    let mut passed_over = home_positions(plan.blocks);
-    passed_over.retain(|&position| position < plan.home);
+    let bad_blocks = pointers_of(&passed_over(plan.blocks, plan.home));
     let mut next = plan.storage_map + plan.storage_map_blocks();
     let image = vec![0; 512 * plan.blocks as usize];
     let mut volume = Volume::new(plan, image);
-    for header in [
-        Header {
-            areas: Areas::LARGEST,
-            ..Header::new(1, 1, index)
-        },
-        Header::new(2, 2, storage),
-        Header::new(3, 3, pointers_of(&passed_over)),
-        Header::new(4, 4, vec![]),
-        Header::new(5, 5, vec![]),
-    ] {
-        volume.add(File::of(header));
-    }
-    let last = volume.last_slot().min(volume.plan.h_fmax.into()) as u16 - files.unused;
+    volume.add_known(Areas::LARGEST, bad_blocks, vec![]);
+    let last = volume.last_number() - files.unused;
     for first in (6..=last).step_by(files.headers.into()) {
         let numbers = first..=last.min(first + files.headers - 1);
         volume.add(File::chain(numbers.map(|number| {

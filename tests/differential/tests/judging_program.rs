@@ -8,8 +8,8 @@ use std::path::{Path, PathBuf};
 use std::process::{Command, Stdio};
 use std::thread;
 use volumes::flaw::{each_flawed, volumes_to_judge, Flawed};
-use volumes::header::{pointers_of, Header};
-use volumes::volume::{File, Plan, Volume};
+use volumes::header::Areas;
+use volumes::volume::{Plan, Volume};
 use volumes::volume_v::volume_v;
 
 /// Paper 01, "The work and its edge": "an image of at most 65,536 bytes from standard input", and
@@ -113,18 +113,8 @@ fn with_h_fmax(h_fmax: u16) -> Volume {
         control: end,
         storage_map: end + 1,
     };
-    let index = pointers_of(&plan.index_lbns());
-    let storage = pointers_of(&plan.storage_lbns());
     let mut volume = Volume::new(plan, vec![0; MOST_BYTES]);
-    for (number, pointers) in [
-        (1, index),
-        (2, storage),
-        (3, vec![]),
-        (4, vec![]),
-        (5, vec![]),
-    ] {
-        volume.add(File::of(Header::new(number, number, pointers)));
-    }
+    volume.add_known(Areas::USUAL, vec![], vec![]);
     volume.put_storage_map();
     volume
 }

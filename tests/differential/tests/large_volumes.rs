@@ -33,25 +33,13 @@ const FACTS: Facts = Facts {
 /// A volume of N blocks with files 1 to 5 and a chained file of high numbers and high LBNs.
 fn large_volume(plan: Plan) -> Volume {
     let blocks = plan.blocks;
-    let index = pointers_of(&plan.index_lbns());
-    let storage = pointers_of(&plan.storage_lbns());
     let image = vec![0; 512 * blocks as usize];
     let mut volume = Volume::new(plan, image);
     volume.put_label(LABEL);
     let pointer = |lbn: u32, blocks: u32| Pointer { lbn, blocks };
-    for header in [
-        Header {
-            areas: Areas::LARGEST,
-            ..Header::new(1, 1, index)
-        },
-        Header::new(2, 2, storage),
-        Header::new(3, 3, vec![]),
-        Header::new(4, 4, vec![pointer(blocks / 2, 2), pointer(blocks / 4, 1)]),
-        Header::new(5, 5, vec![]),
-    ] {
-        volume.add(File::of(header));
-    }
-    let last = volume.last_slot().min(volume.plan.h_fmax.into()) as u16;
+    let directory = vec![pointer(blocks / 2, 2), pointer(blocks / 4, 1)];
+    volume.add_known(Areas::LARGEST, vec![], directory);
+    let last = volume.last_number();
     let first = Header {
         facts: Some(FACTS),
         ..Header::new(

@@ -12,7 +12,7 @@ use crate::facts::{End, Facts};
 use crate::header::{
     pointers_of, Areas, Header, Pointer, DEACCESS_LOCKED, MARKED_FOR_DELETE, MOST_POINTERS,
 };
-use crate::shapes::{home_positions, MOST_BLOCKS};
+use crate::shapes::{bad_block_shares, home_positions, MOST_BLOCKS};
 use crate::station::LABEL;
 use crate::volume::{File, Placed, Plan, Record, Roles, Volume, BLOCK_RECORDS, FIRST_HEADERS};
 use std::collections::VecDeque;
@@ -274,10 +274,7 @@ fn chain(numbers: &[u16], pointers: Vec<Vec<Pointer>>) -> File {
 
 /// File 3 with the home positions passed over, in as many headers as they need.
 fn bad_block_file(plan: &Plan, numbers: &mut VecDeque<u16>) -> File {
-    let mut positions = home_positions(plan.blocks);
-    positions.retain(|&position| position < plan.home);
-    let mut shares: Vec<Vec<Pointer>> = positions.chunks(MOST_POINTERS).map(pointers_of).collect();
-    shares.resize(shares.len().max(1), Vec::new());
+    let shares = bad_block_shares(plan);
     let mut names = vec![3];
     if shares.len() > 1 {
         numbers.push_front(3);

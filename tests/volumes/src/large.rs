@@ -3,7 +3,7 @@
 
 use crate::facts::{End, Facts};
 use crate::header::{pointers_of, Areas, Header, Pointer, MOST_POINTERS};
-use crate::shapes::{home_positions, MOST_BLOCKS};
+use crate::shapes::{bad_block_shares, MOST_BLOCKS};
 use crate::station::LABEL;
 use crate::volume::{File, Plan, Volume};
 
@@ -79,16 +79,16 @@ pub const HIGH_FACTS: Facts = Facts {
 
 /// File 3 with the home positions passed over, in as many headers as they need.
 fn bad_block_file(plan: &Plan) -> File {
-    let mut positions = home_positions(plan.blocks);
-    positions.retain(|&position| position < plan.home);
-    let mut shares: Vec<Vec<Pointer>> = positions.chunks(MOST_POINTERS).map(pointers_of).collect();
-    shares.resize(shares.len().max(1), Vec::new());
     let names = (1..).map(|place| (BAD_BLOCKS + place, 9));
     let names = std::iter::once((3, 3)).chain(names);
-    File::chain(names.zip(shares).map(|(name, pointers)| Header {
-        areas: Areas::LARGEST,
-        ..Header::new(name.0, name.1, pointers)
-    }))
+    File::chain(
+        names
+            .zip(bad_block_shares(plan))
+            .map(|(name, pointers)| Header {
+                areas: Areas::LARGEST,
+                ..Header::new(name.0, name.1, pointers)
+            }),
+    )
 }
 
 /// A sound volume of many blocks.
@@ -103,7 +103,7 @@ pub fn large_volume(plan: Plan) -> Volume {
         lbn: 256 * number + 1,
         blocks: 255,
     };
-    let last = volume.last_slot().min(volume.plan.h_fmax.into()) as u16;
+    let last = volume.last_number();
     volume.put_label(LABEL);
     for header in [
         Header {

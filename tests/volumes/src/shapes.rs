@@ -148,10 +148,20 @@ pub(crate) fn plan_of_16_slots(
 }
 
 /// The home positions below the home.
-fn passed_over(blocks: u32, home: u32) -> Vec<u32> {
+pub fn passed_over(blocks: u32, home: u32) -> Vec<u32> {
     let positions = home_positions(blocks);
     let passed = positions.into_iter().filter(|&position| position < home);
     passed.collect()
+}
+
+/// The pointers of each header of file 3, which covers the home positions passed over: as many headers
+/// as they need, and one where there are none.
+pub(crate) fn bad_block_shares(plan: &Plan) -> Vec<Vec<Pointer>> {
+    let positions = passed_over(plan.blocks, plan.home);
+    let shares = positions.chunks(MOST_POINTERS).map(pointers_of);
+    let mut shares: Vec<Vec<Pointer>> = shares.collect();
+    shares.resize(shares.len().max(1), Vec::new());
+    shares
 }
 
 /// Takes blocks in a row, which there are: the volume is almost empty yet.
@@ -231,7 +241,7 @@ struct Wanted {
 
 /// Numbers from 6 on that are free, in a random order, so that chains jump to and fro.
 fn free_numbers(random: &mut Random, volume: &Volume) -> Vec<u16> {
-    let last = volume.last_slot().min(u32::from(volume.plan.h_fmax)) as u16;
+    let last = volume.last_number();
     let mut numbers: Vec<u16> = (6..=last).collect();
     for header in volume.headers() {
         numbers.retain(|&number| number != header.number);

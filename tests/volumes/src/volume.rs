@@ -2,7 +2,7 @@
 
 use crate::block::{put_long, put_word, put_words, seal_home, BLOCK_BYTES};
 use crate::facts::Label;
-use crate::header::{Header, Pointer};
+use crate::header::{pointers_of, Areas, Header, Pointer};
 use model::Id;
 
 /// The bits of a block of a map.
@@ -275,9 +275,14 @@ impl Volume {
         self.index.len() as u32 - 2 - self.plan.index_map_blocks()
     }
 
+    /// The highest number with a slot that is not above H.FMAX.
+    pub fn last_number(&self) -> u16 {
+        self.last_slot().min(u32::from(self.plan.h_fmax)) as u16
+    }
+
     /// The numbers from 6 on, rising, that have a slot and that no header of a file has.
     pub fn unused_numbers(&self) -> impl Iterator<Item = u16> {
-        let last = self.last_slot().min(u32::from(self.plan.h_fmax)) as u16;
+        let last = self.last_number();
         let mut is_used = vec![false; 65_536];
         for header in self.headers() {
             is_used[usize::from(header.number)] = true;
@@ -310,6 +315,23 @@ impl Volume {
             self.put_in_use(header.number, true);
         }
         self.files.push(file);
+    }
+
+    /// Puts files 1 to 5, of one header each: the index file, with these areas, and the storage map file
+    /// where the plan has them, the bad block file and the directory with these pointers, and the last
+    /// without blocks.
+    pub fn add_known(&mut self, areas: Areas, bad_blocks: Vec<Pointer>, directory: Vec<Pointer>) {
+        let index = pointers_of(&self.plan.index_lbns());
+        let storage = pointers_of(&self.plan.storage_lbns());
+        let index = Header {
+            areas,
+            ..Header::new(1, 1, index)
+        };
+        self.add(File::of(index));
+        let others = [storage, bad_blocks, directory, Vec::new()];
+        for (number, pointers) in (2..).zip(others) {
+            self.add(File::of(Header::new(number, number, pointers)));
+        }
     }
 
     /// All headers of files.

@@ -2,7 +2,7 @@
 
 use super::{add_pointer, free_lbns, last_index_header, still_sound, Flaw, Offenders, Which};
 use crate::header::{pointers_of, Areas, Header};
-use crate::shapes::home_positions;
+use crate::shapes::passed_over;
 use crate::volume::{File, Volume};
 use model::Number;
 
@@ -13,7 +13,7 @@ fn flaw(
     edit: impl Fn(&mut Volume, &[u32]) -> Option<Offenders> + 'static,
 ) -> Flaw {
     Flaw::new(Number::Badhome, name, move |volume| {
-        let passed = passed_over(volume);
+        let passed = passed_over(volume.plan.blocks, volume.plan.home);
         if passed.is_empty() {
             return None;
         }
@@ -21,13 +21,6 @@ fn flaw(
         volume.put_storage_map();
         Some(offenders)
     })
-}
-
-/// The home positions below the home.
-fn passed_over(volume: &Volume) -> Vec<u32> {
-    let mut positions = home_positions(volume.plan.blocks);
-    positions.retain(|&position| position < volume.plan.home);
-    positions
 }
 
 /// Puts file 3 anew, with these blocks in each of its headers. Its old extension headers are no more
@@ -54,7 +47,7 @@ fn put_bad_blocks(volume: &mut Volume, shares: &[Vec<u32>]) -> Option<()> {
 
 /// The lowest number that neither a file nor one of these headers has.
 fn unused_number(volume: &Volume, headers: &[Header]) -> Option<u16> {
-    let last = volume.last_slot().min(volume.plan.h_fmax.into()) as u16;
+    let last = volume.last_number();
     let is_used = |number| {
         let mut all = volume.headers().chain(headers);
         all.any(|header| header.number == number)
@@ -89,7 +82,7 @@ fn missing() -> Vec<Flaw> {
         let name = format!("the {name} one missing, and the map as it was");
         // MAP comes after BADHOME.
         let map_left = Flaw::new(Number::Badhome, name, move |volume| {
-            let passed = passed_over(volume);
+            let passed = passed_over(volume.plan.blocks, volume.plan.home);
             let position = *passed.get(place(passed.len().max(1)))?;
             leave_out(volume, &[position])?;
             Some(vec![position])

@@ -303,7 +303,7 @@ fn several() -> Vec<Flaw> {
                 volume.block_mut(lbn).fill(0xff);
             }
             // Unused slots are cleared, so that they are surely not whole.
-            let last = volume.last_slot().min(volume.plan.h_fmax.into()) as u16;
+            let last = volume.last_number();
             let used: Vec<u16> = volume.headers().map(|header| header.number).collect();
             let unused: Vec<u16> = (1..=last).filter(|it| !used.contains(it)).collect();
             for &number in &unused {

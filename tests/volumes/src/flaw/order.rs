@@ -2,7 +2,7 @@
 //! verdict": "Judged in this order".
 
 use super::{add_pointer, break_header, Flaw, Offenders};
-use crate::shapes::home_positions;
+use crate::shapes::passed_over;
 use crate::volume::{put_bit, Volume};
 use model::Number;
 
@@ -27,8 +27,7 @@ const BREAKS: [(Number, Break); 5] = [
         Some(vec![control])
     }),
     (Number::Badhome, |volume| {
-        let mut positions = home_positions(volume.plan.blocks);
-        positions.retain(|&position| position < volume.plan.home);
+        let positions = passed_over(volume.plan.blocks, volume.plan.home);
         let file = volume.file(3).clone();
         for header in &file.headers {
             volume.edit_header(header.number, |header| header.pointers.clear());
