@@ -6,7 +6,7 @@
 use super::{Damage, Expected};
 use crate::block::add_to_word;
 use crate::damage::header::{more_pointers, of_one_header, put_link, Target};
-use crate::damage::number::put_h_fmax;
+use crate::damage::number::{put_h_fmax, use_past_last_slot};
 use crate::header::{at, in_map, pointers_of, Areas, Header, MOST_POINTERS};
 use crate::long_index::last_slot_of;
 use crate::volume::{File, Volume, FIRST_HEADERS};
@@ -377,15 +377,7 @@ fn files() -> Vec<Damage> {
         ),
         Damage::new(
             "long index: the last slot of all, and one past it",
-            |volume| {
-                let number = u16::try_from(volume.last_slot() + 1).ok()?;
-                if number > volume.plan.h_fmax {
-                    return None;
-                }
-                volume.put_in_use(number, true);
-                let id = Id::from_words([number, 0, 0]);
-                Some(Expected::File(id, Number::Number))
-            },
+            use_past_last_slot,
         ),
     ]
 }

@@ -147,6 +147,17 @@ fn high_file(volume: &Volume) -> Option<Id> {
     Some(highest.id()).filter(|id| id.number > 16)
 }
 
+/// The number after the last slot in use: it has none.
+pub fn use_past_last_slot(volume: &mut Volume) -> Option<Expected> {
+    let number = u16::try_from(volume.last_slot() + 1).ok()?;
+    if number > volume.plan.h_fmax {
+        return None;
+    }
+    volume.put_in_use(number, true);
+    let id = Id::from_words([number, 0, 0]);
+    Some(Expected::File(id, Number::Number))
+}
+
 /// Slots that the index file maps no more, and one that it never had.
 fn slots() -> Vec<Damage> {
     vec![
@@ -160,15 +171,7 @@ fn slots() -> Vec<Damage> {
             cut_slots(volume, id.number)?;
             Some(Expected::File(id, Number::Done))
         }),
-        Damage::new("slot: in use without one", |volume| {
-            let number = u16::try_from(volume.last_slot() + 1).ok()?;
-            if number > volume.plan.h_fmax {
-                return None;
-            }
-            volume.put_in_use(number, true);
-            let id = Id::from_words([number, 0, 0]);
-            Some(Expected::File(id, Number::Number))
-        }),
+        Damage::new("slot: in use without one", use_past_last_slot),
         Damage::new("slot: H.FMAX in use without one", |volume| {
             let number = volume.plan.h_fmax;
             if u32::from(number) <= volume.last_slot() {
