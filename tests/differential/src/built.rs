@@ -2,7 +2,7 @@
 //! and against the model.
 
 use crate::asked::{all_of, ids, opening_of, places, some, some_of};
-use crate::facts::Depth;
+use crate::facts::{expect_each_met, Depth};
 use crate::images::{Call, Subject};
 use crate::run::Run;
 use library::Lender;
@@ -80,6 +80,22 @@ fn expect_as_built(run: &mut Run, random: &mut Random, subject: &Subject, volume
         expect_walk(run, subject, volume, directory);
     }
     subject.expect_facts(run, volume);
+}
+
+/// Sees that each number that the calls on sound volumes answer was answered often enough.
+pub fn expect_built_met(run: &mut Run, least: u64) {
+    run.expect_met("open_volume", [0], least);
+    run.expect_met("open_file", [0, 6, 7, 9, 10, 11], least);
+    run.expect_met("map", [0, 13], least);
+    run.expect_met("block", [0, 13], least);
+    run.expect_met("look_up", [0, 14, 15], least);
+    run.expect_met("next_record", [0, 15], least);
+    expect_each_met(run, &[0], least);
+    run.expect_met("header", [7], least);
+    run.expect_met("pointer", [7, 15], least);
+    run.expect_met("attributes", [6, 7, 9], least);
+    run.expect_met("extent", [6, 7, 9, 13], least);
+    run.expect_met("free_run", [15], least);
 }
 
 /// Compares a sound volume: as it was built, and everything that is asked, against the model.

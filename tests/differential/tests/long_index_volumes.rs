@@ -2,7 +2,7 @@
 //! model, and lists of create, extend and delete calls with what demand 3 says after each.
 
 use differential::asked::opening_of;
-use differential::built::compare_built;
+use differential::built::{compare_built, expect_built_met};
 use differential::facts::{expect_each_met, Depth};
 use differential::images::{Asked, Call, Subject};
 use differential::judging::Desk;
@@ -88,20 +88,9 @@ fn sound_volumes() {
             compare_sound(run, random, (&mut lender, &mut desk), &volume);
         });
         let least = 300;
-        run.expect_met("open_volume", [0], least);
-        run.expect_met("open_file", [0, 6, 7, 9, 10, 11], least);
-        run.expect_met("map", [0, 13], least);
-        run.expect_met("block", [0, 13], least);
-        run.expect_met("look_up", [0, 14, 15], least);
-        run.expect_met("next_record", [0, 15], least);
+        expect_built_met(run, least);
         run.expect_met("judge", [0], least);
         run.expect_met("judge", [16], 20);
-        expect_each_met(run, &[0], least);
-        run.expect_met("header", [7], least);
-        run.expect_met("pointer", [7, 15], least);
-        run.expect_met("attributes", [6, 7, 9], least);
-        run.expect_met("extent", [6, 7, 9, 13], least);
-        run.expect_met("free_run", [15], least);
         expect_shapes(run, 10);
     });
 }
