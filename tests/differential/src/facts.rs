@@ -3,7 +3,7 @@
 
 use crate::asked::{free_starts, ids, numbers, pointer_places, row_vbns, some_or_all};
 use crate::images::{Call, Subject};
-use crate::run::Run;
+use crate::run::{Run, FACTS};
 use model::volume::{self, Opened};
 use model::{facts, file, FileNumber, Id, Number};
 use volumes::volume::File;
@@ -44,20 +44,10 @@ impl Depth {
     };
 }
 
-/// The calls that tell what a volume and its files say.
-const CALLS: [&str; 7] = [
-    "geometry",
-    "label",
-    "header",
-    "pointer",
-    "attributes",
-    "extent",
-    "free_run",
-];
-
-/// Sees that each of these numbers was answered often enough by each of the calls.
+/// Sees that each of these numbers was answered often enough by each of the calls that tell what a volume
+/// and its files say.
 pub fn expect_each_met(run: &mut Run, numbers: &[u64], least: u64) {
-    for call in CALLS {
+    for call in FACTS {
         run.expect_met(call, numbers.iter().copied(), least);
     }
 }

@@ -26,7 +26,7 @@ pub enum Call {
 }
 
 impl Call {
-    /// Its name, one of `run::CALLS`.
+    /// Its name, as `run` counts what is met.
     fn name(self) -> &'static str {
         match self {
             Call::OpenVolume => "open_volume",

@@ -17,7 +17,7 @@ pub enum Change {
 }
 
 impl Change {
-    /// Its name, one of `run::CALLS`.
+    /// Its name, as `run` counts what is met.
     pub fn name(self) -> &'static str {
         match self {
             Change::Create(..) => "create",
