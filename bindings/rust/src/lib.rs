@@ -20,6 +20,8 @@
 mod answer;
 mod calls;
 mod exported;
+#[doc(hidden)]
+pub mod kinds;
 mod types;
 pub mod words;
 

@@ -3,9 +3,11 @@
 
 #![allow(unsafe_code)]
 
-use crate::calls::Calls;
 use crate::folder::Folder;
-use crate::plain::Answer;
+use ods1::kinds::{
+    Create, Delete, Extend, Judge, LookUp, OfFile, OfFileAndPlace, OfImage, OfNumber,
+    OfNumberAndPlace, OfPlace,
+};
 use std::ffi::{c_char, c_int, c_void, CStr, CString};
 use std::fs;
 use std::mem;
@@ -26,76 +28,24 @@ const NOW_AND_LOCAL: c_int = 2;
 /// Not to load a library that is not loaded already.
 const NO_LOAD: c_int = 4;
 
-/// The kinds of functions. A slice passes as its pointer, and then its length.
-type OfImage = unsafe extern "C" fn(*const u8, usize, *mut Answer);
-type OfNumber = unsafe extern "C" fn(*const u8, usize, u16, *mut Answer);
-type OfNumberAndPlace = unsafe extern "C" fn(*const u8, usize, u16, u32, *mut Answer);
-type OfPlace = unsafe extern "C" fn(*const u8, usize, u32, *mut Answer);
-type OfFile = unsafe extern "C" fn(*const u8, usize, u16, u16, u16, *mut Answer);
-type OfFileAndPlace = unsafe extern "C" fn(*const u8, usize, u16, u16, u16, u32, *mut Answer);
-type LookUp =
-    unsafe extern "C" fn(*const u8, usize, u16, u16, u16, u16, u16, u16, u16, u16, *mut Answer);
-type Judge = unsafe extern "C" fn(*const u8, usize, *mut u8, usize, *mut u8, usize, *mut Answer);
-type Create = unsafe extern "C" fn(
-    *mut u8,
-    usize,
-    u16,
-    u16,
-    u16,
-    u16,
-    u16,
-    u16,
-    u16,
-    *mut u8,
-    usize,
-    *mut u8,
-    usize,
-    *mut Answer,
-);
-type Extend = unsafe extern "C" fn(
-    *mut u8,
-    usize,
-    u16,
-    u16,
-    u16,
-    u32,
-    *mut u8,
-    usize,
-    *mut u8,
-    usize,
-    *mut Answer,
-);
-type Delete = unsafe extern "C" fn(
-    *mut u8,
-    usize,
-    u16,
-    u16,
-    u16,
-    *mut u8,
-    usize,
-    *mut u8,
-    usize,
-    *mut Answer,
-);
-
 /// A library that was loaded. It stays loaded until the program ends.
 pub struct Loaded {
-    open_volume: OfImage,
-    open_file: OfFile,
-    map: OfFileAndPlace,
-    look_up: LookUp,
-    next_record: OfFileAndPlace,
-    judge: Judge,
-    create: Create,
-    extend: Extend,
-    delete: Delete,
-    geometry: OfImage,
-    label: OfImage,
-    header: OfNumber,
-    pointer: OfNumberAndPlace,
-    attributes: OfFile,
-    extent: OfFileAndPlace,
-    free_run: OfPlace,
+    pub open_volume: OfImage,
+    pub open_file: OfFile,
+    pub map: OfFileAndPlace,
+    pub look_up: LookUp,
+    pub next_record: OfFileAndPlace,
+    pub judge: Judge,
+    pub create: Create,
+    pub extend: Extend,
+    pub delete: Delete,
+    pub geometry: OfImage,
+    pub label: OfImage,
+    pub header: OfNumber,
+    pub pointer: OfNumberAndPlace,
+    pub attributes: OfFile,
+    pub extent: OfFileAndPlace,
+    pub free_run: OfPlace,
 }
 
 /// By how many bytes more the functions of each copy are moved: it is 16 more than four times 64, so that
@@ -186,182 +136,5 @@ impl Library {
             extent: self.function("extent"),
             free_run: self.function("free_run"),
         }
-    }
-}
-
-// SAFETY, of every call: as in the bindings. A slice passes as its pointer and its length and outlives
-// the call; what is lent to be read is written by nobody meanwhile, and what is lent to be written, the
-// answer's twelve words among it, nothing else refers to during the call.
-impl Calls for Loaded {
-    fn open_volume(&self, image: &[u8], answer: &mut Answer) {
-        // SAFETY: as above.
-        unsafe { (self.open_volume)(image.as_ptr(), image.len(), answer) }
-    }
-
-    fn open_file(&self, image: &[u8], [number, sequence, volume]: [u16; 3], answer: &mut Answer) {
-        let (start, length) = (image.as_ptr(), image.len());
-        // SAFETY: as above.
-        unsafe { (self.open_file)(start, length, number, sequence, volume, answer) }
-    }
-
-    fn map(&self, image: &[u8], id: [u16; 3], vbn: u32, answer: &mut Answer) {
-        let [number, sequence, volume] = id;
-        let (start, length) = (image.as_ptr(), image.len());
-        // SAFETY: as above.
-        unsafe { (self.map)(start, length, number, sequence, volume, vbn, answer) }
-    }
-
-    fn look_up(&self, image: &[u8], id: [u16; 3], name: [u16; 5], answer: &mut Answer) {
-        let [number, sequence, volume] = id;
-        let [name1, name2, name3, typ, version] = name;
-        let (start, length) = (image.as_ptr(), image.len());
-        // SAFETY: as above.
-        unsafe {
-            (self.look_up)(
-                start, length, number, sequence, volume, name1, name2, name3, typ, version, answer,
-            )
-        }
-    }
-
-    fn next_record(&self, image: &[u8], id: [u16; 3], place: u32, answer: &mut Answer) {
-        let [number, sequence, volume] = id;
-        let (start, length) = (image.as_ptr(), image.len());
-        // SAFETY: as above.
-        unsafe { (self.next_record)(start, length, number, sequence, volume, place, answer) }
-    }
-
-    fn judge(&self, image: &[u8], blocks: &mut [u8], headers: &mut [u8], answer: &mut Answer) {
-        // SAFETY: as above.
-        unsafe {
-            (self.judge)(
-                image.as_ptr(),
-                image.len(),
-                blocks.as_mut_ptr(),
-                blocks.len(),
-                headers.as_mut_ptr(),
-                headers.len(),
-                answer,
-            )
-        }
-    }
-
-    fn create(
-        &self,
-        image: &mut [u8],
-        [name1, name2, name3, typ, version]: [u16; 5],
-        (owner, protection): (u16, u16),
-        blocks: &mut [u8],
-        headers: &mut [u8],
-        answer: &mut Answer,
-    ) {
-        // SAFETY: as above.
-        unsafe {
-            (self.create)(
-                image.as_mut_ptr(),
-                image.len(),
-                name1,
-                name2,
-                name3,
-                typ,
-                version,
-                owner,
-                protection,
-                blocks.as_mut_ptr(),
-                blocks.len(),
-                headers.as_mut_ptr(),
-                headers.len(),
-                answer,
-            )
-        }
-    }
-
-    fn extend(
-        &self,
-        image: &mut [u8],
-        [number, sequence, volume]: [u16; 3],
-        count: u32,
-        blocks: &mut [u8],
-        headers: &mut [u8],
-        answer: &mut Answer,
-    ) {
-        // SAFETY: as above.
-        unsafe {
-            (self.extend)(
-                image.as_mut_ptr(),
-                image.len(),
-                number,
-                sequence,
-                volume,
-                count,
-                blocks.as_mut_ptr(),
-                blocks.len(),
-                headers.as_mut_ptr(),
-                headers.len(),
-                answer,
-            )
-        }
-    }
-
-    fn delete(
-        &self,
-        image: &mut [u8],
-        [number, sequence, volume]: [u16; 3],
-        blocks: &mut [u8],
-        headers: &mut [u8],
-        answer: &mut Answer,
-    ) {
-        // SAFETY: as above.
-        unsafe {
-            (self.delete)(
-                image.as_mut_ptr(),
-                image.len(),
-                number,
-                sequence,
-                volume,
-                blocks.as_mut_ptr(),
-                blocks.len(),
-                headers.as_mut_ptr(),
-                headers.len(),
-                answer,
-            )
-        }
-    }
-
-    fn geometry(&self, image: &[u8], answer: &mut Answer) {
-        // SAFETY: as above.
-        unsafe { (self.geometry)(image.as_ptr(), image.len(), answer) }
-    }
-
-    fn label(&self, image: &[u8], answer: &mut Answer) {
-        // SAFETY: as above.
-        unsafe { (self.label)(image.as_ptr(), image.len(), answer) }
-    }
-
-    fn header(&self, image: &[u8], number: u16, answer: &mut Answer) {
-        // SAFETY: as above.
-        unsafe { (self.header)(image.as_ptr(), image.len(), number, answer) }
-    }
-
-    fn pointer(&self, image: &[u8], number: u16, place: u32, answer: &mut Answer) {
-        // SAFETY: as above.
-        unsafe { (self.pointer)(image.as_ptr(), image.len(), number, place, answer) }
-    }
-
-    fn attributes(&self, image: &[u8], [number, sequence, volume]: [u16; 3], answer: &mut Answer) {
-        let (start, length) = (image.as_ptr(), image.len());
-        // SAFETY: as above.
-        unsafe { (self.attributes)(start, length, number, sequence, volume, answer) }
-    }
-
-    fn extent(&self, image: &[u8], id: [u16; 3], vbn: u32, answer: &mut Answer) {
-        let [number, sequence, volume] = id;
-        let (start, length) = (image.as_ptr(), image.len());
-        // SAFETY: as above.
-        unsafe { (self.extent)(start, length, number, sequence, volume, vbn, answer) }
-    }
-
-    fn free_run(&self, image: &[u8], from: u32, answer: &mut Answer) {
-        // SAFETY: as above.
-        unsafe { (self.free_run)(image.as_ptr(), image.len(), from, answer) }
     }
 }
