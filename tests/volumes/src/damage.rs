@@ -5,6 +5,7 @@ mod chain;
 pub(crate) mod header;
 mod home;
 mod known;
+mod links;
 mod long_index;
 mod number;
 

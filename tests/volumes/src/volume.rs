@@ -295,6 +295,27 @@ impl Volume {
         self.unused_numbers().next()
     }
 
+    /// The lowest number that has no slot, if it is not above H.FMAX.
+    pub fn number_without_slot(&self) -> Option<u16> {
+        let number = u16::try_from(self.last_slot() + 1).ok()?;
+        Some(number).filter(|&number| number <= self.plan.h_fmax)
+    }
+
+    /// Puts every byte of the index map.
+    pub fn fill_index_map(&mut self, byte: u8) {
+        let first = self.plan.h_iblb;
+        for lbn in first..first + self.plan.index_map_blocks() {
+            self.block_mut(lbn).fill(byte);
+        }
+    }
+
+    /// Puts a number in use, if the index map has a bit for it.
+    pub fn put_in_use_if_mapped(&mut self, number: u16) {
+        if u32::from(number) <= MAP_BITS * self.plan.index_map_blocks() {
+            self.put_in_use(number, true);
+        }
+    }
+
     /// Puts a number's bit of the index map.
     pub fn put_in_use(&mut self, number: u16, in_use: bool) {
         let bit = u32::from(number) - 1;

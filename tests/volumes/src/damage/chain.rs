@@ -1,9 +1,13 @@
 //! Damages of links between headers.
 
 use super::{Damage, Expected};
-use crate::block::{add_to_word, word};
-use crate::damage::header::{put_link, Target};
-use crate::header::{at, in_map, Header};
+use crate::block::word;
+use crate::damage::header::Target;
+use crate::damage::links::{
+    add_header, go_on_from_255, link, link_above_h_fmax, link_past_slots, link_to, other_headers,
+    other_links,
+};
+use crate::header::{at, Header};
 use crate::volume::Volume;
 use model::{Id, Number};
 
@@ -31,34 +35,6 @@ fn of_chain(
     })
 }
 
-/// Links the header of a target to a number and sequence.
-fn link(volume: &mut Volume, target: Target, number: u16, sequence: u16) {
-    put_link(target.edit(volume).map_mut(), number, sequence);
-}
-
-/// Links the last header to a header.
-fn link_last_to(volume: &mut Volume, to: &Header) {
-    link(volume, Target::Last, to.number, to.sequence);
-}
-
-/// The segment that the header after the last would have, if it can have one.
-fn next_segment(volume: &Volume) -> Option<u8> {
-    header(volume, usize::MAX).segment.checked_add(1)
-}
-
-/// Puts a header without pointers after the last one, of the next segment, and links to it.
-fn add_header(volume: &mut Volume, sequence: u16) -> Option<u16> {
-    let number = volume.unused_number()?;
-    let added = Header {
-        segment: next_segment(volume)?,
-        ..Header::new(number, sequence, Vec::new())
-    };
-    volume.put_header(&added);
-    volume.put_in_use(number, true);
-    link_last_to(volume, &added);
-    Some(number)
-}
-
 /// All damages of links.
 pub fn damages() -> Vec<Damage> {
     let mut all = numbers();
@@ -81,22 +57,7 @@ fn numbers() -> Vec<Damage> {
     }
     all.extend([
         of_chain("link above H.FMAX", Number::Chain, |volume| {
-            let number = volume.plan.h_fmax.checked_add(1)?;
-            let segment = next_segment(volume)?;
-            let sequence = 3;
-            // The header is there, if it can be, and the bit.
-            if let Some(lbn) = volume.slot(number) {
-                let added = Header {
-                    segment,
-                    ..Header::new(number, sequence, Vec::new())
-                };
-                added.put(volume.block_mut(lbn));
-            }
-            if u32::from(number) <= 4_096 * volume.plan.index_map_blocks() {
-                volume.put_in_use(number, true);
-            }
-            link(volume, Target::Last, number, sequence);
-            Some(())
+            link_above_h_fmax(volume, Target::Last)
         }),
         of_chain("link to 65,535", Number::Chain, |volume| {
             link(volume, Target::Last, 65_535, 1);
@@ -105,34 +66,26 @@ fn numbers() -> Vec<Damage> {
         of_chain(
             "link to a number in use without slot",
             Number::Chain,
-            |volume| {
-                let number = u16::try_from(volume.last_slot() + 1).ok()?;
-                if number > volume.plan.h_fmax {
-                    return None;
-                }
-                volume.put_in_use(number, true);
-                link(volume, Target::Last, number, 0);
-                Some(())
-            },
+            |volume| link_past_slots(volume, Target::Last),
         ),
         of_chain(
             "link to a header that is not in use",
             Number::Chain,
             |volume| {
-                let number = add_header(volume, 5)?;
-                volume.put_in_use(number, false);
+                let added = add_header(volume, Target::Last, 5, &[])?;
+                volume.put_in_use(added.number, false);
                 Some(())
             },
         ),
         of_chain("a good link more", Number::Done, |volume| {
-            add_header(volume, 5)?;
+            add_header(volume, Target::Last, 5, &[])?;
             Some(())
         }),
         of_chain(
             "a good link more, with sequence 0",
             Number::Done,
             |volume| {
-                add_header(volume, 0)?;
+                add_header(volume, Target::Last, 0, &[])?;
                 Some(())
             },
         ),
@@ -140,14 +93,12 @@ fn numbers() -> Vec<Damage> {
             "a good link more, to a locked header",
             Number::Done,
             |volume| {
-                let number = add_header(volume, 5)?;
-                let added = Header {
-                    segment: next_segment(volume)?,
+                let added = add_header(volume, Target::Last, 5, &[])?;
+                volume.put_header(&Header {
                     user_flags: 64,
                     system_flags: 128,
-                    ..Header::new(number, 5, Vec::new())
-                };
-                volume.put_header(&added);
+                    ..added
+                });
                 Some(())
             },
         ),
@@ -165,35 +116,13 @@ fn numbers() -> Vec<Damage> {
 
 /// Links whose sequence or segment is not that of the header.
 fn sequences_and_segments() -> Vec<Damage> {
-    let mut all = Vec::new();
-    for target in [Target::First, Target::Second] {
-        for more in [1, 65_535, 256] {
-            let name = format!("{}: M.EFSQ {more} more", target.name());
-            all.push(of_chain(name, Number::Chain, move |volume| {
-                add_to_word(target.edit(volume).map_mut(), in_map::M_EFSQ, more);
-                Some(())
-            }));
-        }
-    }
-    for target in [Target::Second, Target::Last] {
-        for more in [1, 65_535, 256] {
-            let name = format!("{}: H.FSEQ {more} more", target.name());
-            all.push(of_chain(name, Number::Chain, move |volume| {
-                add_to_word(target.edit(volume).block, at::H_FSEQ, more);
-                Some(())
-            }));
-        }
-        for (name, more) in [("more", 1), ("less", 255), ("half of all more", 128)] {
-            let name = format!("{}: segment one {name}", target.name());
-            all.push(of_chain(name, Number::Chain, move |volume| {
-                let mut edit = target.edit(volume);
-                let segment = &mut edit.map_mut()[in_map::SEGMENT];
-                *segment = segment.wrapping_add(more);
-                Some(())
-            }));
-        }
-    }
-    all
+    let links = [Target::First, Target::Second].into_iter();
+    let headers = [Target::Second, Target::Last].into_iter();
+    let changes = links.flat_map(other_links);
+    let changes = changes.chain(headers.flat_map(other_headers));
+    changes
+        .map(|(name, change)| of_chain(name, Number::Chain, change))
+        .collect()
 }
 
 /// Chains that end early, go on, or go over to another file's.
@@ -209,12 +138,12 @@ fn ends() -> Vec<Damage> {
         }),
         of_chain("leaves out the second header", Number::Chain, |volume| {
             let third = header(volume, 2);
-            link(volume, Target::First, third.number, third.sequence);
+            link_to(volume, Target::First, &third);
             Some(())
         }),
         of_chain("goes on to the plain file", Number::Chain, |volume| {
             let plain = volume.file(volume.roles.plain).headers[0].clone();
-            link_last_to(volume, &plain);
+            link_to(volume, Target::Last, &plain);
             Some(())
         }),
         of_chain("goes on to header 1", Number::Chain, |volume| {
@@ -225,7 +154,7 @@ fn ends() -> Vec<Damage> {
             "chain: the plain file shares the headers after it",
             |volume| {
                 let second = header(volume, 1);
-                link(volume, Target::Plain, second.number, second.sequence);
+                link_to(volume, Target::Plain, &second);
                 let id = volume.file(volume.roles.plain).id();
                 Some(Expected::File(id, Number::Done))
             },
@@ -234,7 +163,7 @@ fn ends() -> Vec<Damage> {
             "chain: the plain file links to the third header",
             |volume| {
                 let third = header(volume, 2);
-                link(volume, Target::Plain, third.number, third.sequence);
+                link_to(volume, Target::Plain, &third);
                 let id = volume.file(volume.roles.plain).id();
                 Some(Expected::File(id, Number::Chain))
             },
@@ -242,35 +171,12 @@ fn ends() -> Vec<Damage> {
         of_chain(
             "segment 255 goes on to segment 0",
             Number::Chain,
-            |volume| {
-                if next_segment(volume).is_some() {
-                    return None;
-                }
-                let number = volume.unused_number()?;
-                let added = Header::new(number, 5, Vec::new());
-                volume.put_header(&added);
-                volume.put_in_use(number, true);
-                link_last_to(volume, &added);
-                Some(())
-            },
+            |volume| go_on_from_255(volume, Target::Last, 0),
         ),
         of_chain(
             "segment 255 goes on to segment 255",
             Number::Chain,
-            |volume| {
-                if next_segment(volume).is_some() {
-                    return None;
-                }
-                let number = volume.unused_number()?;
-                let added = Header {
-                    segment: 255,
-                    ..Header::new(number, 5, Vec::new())
-                };
-                volume.put_header(&added);
-                volume.put_in_use(number, true);
-                link_last_to(volume, &added);
-                Some(())
-            },
+            |volume| go_on_from_255(volume, Target::Last, 255),
         ),
     ]
 }
@@ -292,7 +198,7 @@ fn loops() -> Vec<Damage> {
         let name = format!("last header links to the {name}");
         all.push(of_chain(name, Number::Chain, move |volume| {
             let to = header(volume, place);
-            link_last_to(volume, &to);
+            link_to(volume, Target::Last, &to);
             Some(())
         }));
     }
@@ -301,7 +207,7 @@ fn loops() -> Vec<Damage> {
         Number::Chain,
         |volume| {
             let first = header(volume, 0);
-            link(volume, Target::Second, first.number, first.sequence);
+            link_to(volume, Target::Second, &first);
             Some(())
         },
     ));

@@ -4,10 +4,13 @@
 //! longer for an extension as such."
 
 use super::{Damage, Expected};
-use crate::block::add_to_word;
-use crate::damage::header::{more_pointers, of_one_header, put_link, Target};
+use crate::damage::header::{more_pointers, of_one_header, Target};
+use crate::damage::links::{
+    add_header, go_on_from_255, link, link_above_h_fmax, link_past_slots, link_to, next_segment,
+    other_headers, other_links, Change,
+};
 use crate::damage::number::{put_h_fmax, use_past_last_slot};
-use crate::header::{at, in_map, pointers_of, Areas, Header, MOST_POINTERS};
+use crate::header::{at, pointers_of, Areas, Header, MOST_POINTERS};
 use crate::long_index::last_slot_of;
 use crate::volume::{File, Volume, FIRST_HEADERS};
 use model::{Id, Number};
@@ -71,29 +74,6 @@ fn of_index(
     })
 }
 
-/// Links the header of a target to a number and sequence.
-fn link(volume: &mut Volume, target: Target, number: u16, sequence: u16) {
-    put_link(target.edit(volume).map_mut(), number, sequence);
-}
-
-/// Links the header of a target to a header.
-fn link_to(volume: &mut Volume, target: Target, to: &Header) {
-    link(volume, target, to.number, to.sequence);
-}
-
-/// The segment that the header after the last would have, if it can have one.
-fn next_segment(volume: &Volume) -> Option<u8> {
-    last(volume).segment.checked_add(1)
-}
-
-/// Puts the index map: every bit the same.
-fn fill_index_map(volume: &mut Volume, byte: u8) {
-    let first = volume.plan.h_iblb;
-    for lbn in first..first + volume.plan.index_map_blocks() {
-        volume.block_mut(lbn).fill(byte);
-    }
-}
-
 /// Numbers in use and not.
 fn numbers() -> Vec<Damage> {
     let mut all = Vec::new();
@@ -111,22 +91,22 @@ fn numbers() -> Vec<Damage> {
             Some(())
         }),
         of_index("every bit of the index map set", Number::Done, |volume| {
-            fill_index_map(volume, 0xff);
+            volume.fill_index_map(0xff);
             Some(())
         }),
         of_index("no bit of the index map set", Number::Index, |volume| {
-            fill_index_map(volume, 0);
+            volume.fill_index_map(0);
             Some(())
         }),
         of_index("only the further headers in use", Number::Done, |volume| {
-            fill_index_map(volume, 0);
+            volume.fill_index_map(0);
             for header in &volume.file(1).headers.clone()[1..] {
                 volume.put_in_use(header.number, true);
             }
             Some(())
         }),
         of_index("all but the last header in use", Number::Index, |volume| {
-            fill_index_map(volume, 0xff);
+            volume.fill_index_map(0xff);
             volume.put_in_use(last(volume).number, false);
             Some(())
         }),
@@ -142,20 +122,7 @@ fn h_fmax() -> Vec<Damage> {
     };
     vec![
         of_index("link above H.FMAX", Number::Index, |volume| {
-            let number = volume.plan.h_fmax.checked_add(1)?;
-            let added = Header {
-                segment: next_segment(volume)?,
-                ..Header::new(number, 3, Vec::new())
-            };
-            // The header is there, if it can be, and the bit.
-            if let Some(lbn) = volume.slot(number) {
-                added.put(volume.block_mut(lbn));
-            }
-            if u32::from(number) <= 4_096 * volume.plan.index_map_blocks() {
-                volume.put_in_use(number, true);
-            }
-            link_to(volume, Target::LastIndex, &added);
-            Some(())
+            link_above_h_fmax(volume, Target::LastIndex)
         }),
         of_index("link to 65,535", Number::Index, |volume| {
             link(volume, Target::LastIndex, 65_535, 1);
@@ -168,15 +135,7 @@ fn h_fmax() -> Vec<Damage> {
         of_index(
             "link to a number in use without slot",
             Number::Index,
-            |volume| {
-                let number = u16::try_from(volume.last_slot() + 1).ok()?;
-                if number > volume.plan.h_fmax {
-                    return None;
-                }
-                volume.put_in_use(number, true);
-                link(volume, Target::LastIndex, number, 0);
-                Some(())
-            },
+            |volume| link_past_slots(volume, Target::LastIndex),
         ),
         of_index(
             "H.FMAX one below a further header",
@@ -193,14 +152,8 @@ fn h_fmax() -> Vec<Damage> {
 
 /// Links whose sequence or segment is not that of the header.
 fn sequences_and_segments() -> Vec<Damage> {
-    let mut all = Vec::new();
-    for more in [1, 65_535, 256] {
-        let name = format!("header 1: M.EFSQ {more} more");
-        all.push(of_index(name, Number::Index, move |volume| {
-            add_to_word(Target::Index.edit(volume).map_mut(), in_map::M_EFSQ, more);
-            Some(())
-        }));
-    }
+    let damage = |(name, change): (String, Change)| of_index(name, Number::Index, change);
+    let mut all: Vec<Damage> = other_links(Target::Index).map(damage).collect();
     all.push(of_index(
         "header 1: M.EFSQ 7 without link",
         Number::Index,
@@ -210,22 +163,7 @@ fn sequences_and_segments() -> Vec<Damage> {
         },
     ));
     for target in [Target::SecondIndex, Target::LastIndex] {
-        for more in [1, 65_535, 256] {
-            let name = format!("{}: H.FSEQ {more} more", target.name());
-            all.push(of_index(name, Number::Index, move |volume| {
-                add_to_word(target.edit(volume).block, at::H_FSEQ, more);
-                Some(())
-            }));
-        }
-        for (name, more) in [("more", 1), ("less", 255), ("half of all more", 128)] {
-            let name = format!("{}: segment one {name}", target.name());
-            all.push(of_index(name, Number::Index, move |volume| {
-                let mut edit = target.edit(volume);
-                let segment = &mut edit.map_mut()[in_map::SEGMENT];
-                *segment = segment.wrapping_add(more);
-                Some(())
-            }));
-        }
+        all.extend(other_headers(target).map(damage));
     }
     all
 }
@@ -286,14 +224,14 @@ fn ends() -> Vec<Damage> {
             Some(())
         }),
         of_index("goes on with the chained file", Number::Done, |volume| {
-            let segment = usize::from(next_segment(volume)?);
+            let segment = usize::from(next_segment(volume, Target::LastIndex)?);
             let chained = volume.file(volume.roles.chained);
             let next = chained.headers.get(segment)?.clone();
             link_to(volume, Target::LastIndex, &next);
             Some(())
         }),
         of_index("goes on a segment late", Number::Index, |volume| {
-            let segment = usize::from(next_segment(volume)?);
+            let segment = usize::from(next_segment(volume, Target::LastIndex)?);
             let chained = volume.file(volume.roles.chained);
             let next = chained.headers.get(segment + 1)?.clone();
             link_to(volume, Target::LastIndex, &next);
@@ -382,27 +320,15 @@ fn files() -> Vec<Damage> {
     ]
 }
 
-/// Puts a header after the last one, of the next segment, and links to it.
-fn add_header(volume: &mut Volume, sequence: u16, lbns: &[u32]) -> Option<Header> {
-    let added = Header {
-        segment: next_segment(volume)?,
-        ..Header::new(volume.unused_number()?, sequence, pointers_of(lbns))
-    };
-    volume.put_header(&added);
-    volume.put_in_use(added.number, true);
-    link_to(volume, Target::LastIndex, &added);
-    Some(added)
-}
-
 /// Chains that go on to a header that no file had.
 fn one_header_more() -> Vec<Damage> {
     vec![
         of_index("a header more, without blocks", Number::Done, |volume| {
-            add_header(volume, 5, &[])?;
+            add_header(volume, Target::LastIndex, 5, &[])?;
             Some(())
         }),
         of_index("a header more, with sequence 0", Number::Done, |volume| {
-            add_header(volume, 0, &[])?;
+            add_header(volume, Target::LastIndex, 0, &[])?;
             Some(())
         }),
         of_index(
@@ -410,12 +336,12 @@ fn one_header_more() -> Vec<Damage> {
             Number::Done,
             |volume| {
                 let lbns = [0, volume.plan.home, volume.plan.control];
-                add_header(volume, 65_535, &lbns)?;
+                add_header(volume, Target::LastIndex, 65_535, &lbns)?;
                 Some(())
             },
         ),
         of_index("a header more, locked and marked", Number::Done, |volume| {
-            let added = add_header(volume, 5, &[])?;
+            let added = add_header(volume, Target::LastIndex, 5, &[])?;
             volume.put_header(&Header {
                 user_flags: 64,
                 system_flags: 128,
@@ -424,26 +350,26 @@ fn one_header_more() -> Vec<Damage> {
             Some(())
         }),
         of_index("a header more, not in use", Number::Index, |volume| {
-            let added = add_header(volume, 5, &[])?;
+            let added = add_header(volume, Target::LastIndex, 5, &[])?;
             volume.put_in_use(added.number, false);
             Some(())
         }),
         of_index("a header more, of zeros", Number::Index, |volume| {
-            let added = add_header(volume, 0, &[])?;
+            let added = add_header(volume, Target::LastIndex, 0, &[])?;
             let lbn = volume.slot_of(added.number);
             volume.block_mut(lbn).fill(0);
             Some(())
         }),
         of_index("a header more, past N", Number::Index, |volume| {
             let past = volume.plan.blocks;
-            add_header(volume, 5, &[past])?;
+            add_header(volume, Target::LastIndex, 5, &[past])?;
             Some(())
         }),
         of_index(
             "a header more, of another number",
             Number::Index,
             |volume| {
-                let added = add_header(volume, 5, &[])?;
+                let added = add_header(volume, Target::LastIndex, 5, &[])?;
                 let lbn = volume.slot_of(added.number);
                 let other = Header {
                     number: added.number + 1,
@@ -455,7 +381,7 @@ fn one_header_more() -> Vec<Damage> {
         ),
         of_index("header 5 as one more", Number::Done, |volume| {
             let five = Header {
-                segment: next_segment(volume)?,
+                segment: next_segment(volume, Target::LastIndex)?,
                 ..volume.header(5).clone()
             };
             volume.put_header(&five);
@@ -472,17 +398,7 @@ fn after_segment_255() -> Vec<Damage> {
         .map(|segment| {
             let name = format!("segment 255 goes on to segment {segment}");
             of_index(name, Number::Index, move |volume| {
-                if next_segment(volume).is_some() {
-                    return None;
-                }
-                let added = Header {
-                    segment,
-                    ..Header::new(volume.unused_number()?, 5, Vec::new())
-                };
-                volume.put_header(&added);
-                volume.put_in_use(added.number, true);
-                link_to(volume, Target::LastIndex, &added);
-                Some(())
+                go_on_from_255(volume, Target::LastIndex, segment)
             })
         })
         .collect()
@@ -490,10 +406,7 @@ fn after_segment_255() -> Vec<Damage> {
 
 /// A block that no file covers, and the number whose slot it is if the index file goes on with it.
 fn next_slot(volume: &Volume) -> Option<(u32, u16)> {
-    let number = u16::try_from(volume.last_slot() + 1).ok()?;
-    if number > volume.plan.h_fmax {
-        return None;
-    }
+    let number = volume.number_without_slot()?;
     let lbn = volume.covered().iter().position(|covered| !covered)?;
     Some((lbn as u32, number))
 }
@@ -513,7 +426,7 @@ fn slots() -> Vec<Damage> {
             |volume| {
                 let (lbn, number) = next_slot(volume)?;
                 let own = Header {
-                    segment: next_segment(volume)?,
+                    segment: next_segment(volume, Target::LastIndex)?,
                     ..Header::new(number, 5, pointers_of(&[lbn]))
                 };
                 put_at(volume, lbn, &own);
@@ -526,7 +439,7 @@ fn slots() -> Vec<Damage> {
             Number::Index,
             |volume| {
                 let (lbn, number) = next_slot(volume)?;
-                let segment = next_segment(volume)?;
+                let segment = next_segment(volume, Target::LastIndex)?;
                 let after = Header {
                     segment: segment.checked_add(1)?,
                     ..Header::new(volume.unused_number()?, 6, pointers_of(&[lbn]))
@@ -547,7 +460,7 @@ fn slots() -> Vec<Damage> {
             Number::Done,
             |volume| {
                 let (lbn, number) = next_slot(volume)?;
-                let segment = next_segment(volume)?;
+                let segment = next_segment(volume, Target::LastIndex)?;
                 let second = Header {
                     segment: segment.checked_add(1)?,
                     ..Header::new(number, 5, Vec::new())

@@ -57,18 +57,12 @@ fn numbers() -> Vec<Damage> {
             opens_as(volume, Number::Done)
         }),
         Damage::new("number: every bit of the index map set", |volume| {
-            let first = volume.plan.h_iblb;
-            for lbn in first..first + volume.plan.index_map_blocks() {
-                volume.block_mut(lbn).fill(0xff);
-            }
+            volume.fill_index_map(0xff);
             opens_as(volume, Number::Done)
         }),
         Damage::new("number: no bit of the index map set", |volume| {
             one_index_header(volume)?;
-            let first = volume.plan.h_iblb;
-            for lbn in first..first + volume.plan.index_map_blocks() {
-                volume.block_mut(lbn).fill(0);
-            }
+            volume.fill_index_map(0);
             opens_as(volume, Number::Number)
         }),
         Damage::new("number: H.FMAX one below it", |volume| {
@@ -89,9 +83,7 @@ fn numbers() -> Vec<Damage> {
                 let lbn = volume.slot(number)?;
                 header.put(volume.block_mut(lbn));
                 // The bit is past the map where H.FMAX has them all.
-                if u32::from(number) <= 4_096 * volume.plan.index_map_blocks() {
-                    volume.put_in_use(number, true);
-                }
+                volume.put_in_use_if_mapped(number);
                 let id = Id::from_words([number, 7, 0]);
                 Some(Expected::File(id, Number::Number))
             },
@@ -149,10 +141,7 @@ fn high_file(volume: &Volume) -> Option<Id> {
 
 /// The number after the last slot in use: it has none.
 pub fn use_past_last_slot(volume: &mut Volume) -> Option<Expected> {
-    let number = u16::try_from(volume.last_slot() + 1).ok()?;
-    if number > volume.plan.h_fmax {
-        return None;
-    }
+    let number = volume.number_without_slot()?;
     volume.put_in_use(number, true);
     let id = Id::from_words([number, 0, 0]);
     Some(Expected::File(id, Number::Number))

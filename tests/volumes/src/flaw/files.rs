@@ -169,9 +169,7 @@ fn unused() -> Vec<Flaw> {
             let number = volume.plan.h_fmax.checked_add(1)?;
             let lbn = volume.slot(number)?;
             volume.block_mut(lbn).fill(0xff);
-            if u32::from(number) <= MAP_BITS * volume.plan.index_map_blocks() {
-                volume.put_in_use(number, true);
-            }
+            volume.put_in_use_if_mapped(number);
             still_sound(volume)
         }),
     ]
@@ -289,19 +287,13 @@ fn several() -> Vec<Flaw> {
             Some(vec![number.into(), volume.roles.plain.into()])
         }),
         flaw("in use without slot, and a file not whole", move |volume| {
-            let number = volume.last_slot() + 1;
-            if number > u32::from(volume.plan.h_fmax) {
-                return None;
-            }
-            volume.put_in_use(number as u16, true);
+            let number = volume.number_without_slot()?;
+            volume.put_in_use(number, true);
             break_header(volume, volume.roles.plain);
-            Some(vec![number, volume.roles.plain.into()])
+            Some(vec![number.into(), volume.roles.plain.into()])
         }),
         flaw("every bit of the index map set", |volume| {
-            let first = volume.plan.h_iblb;
-            for lbn in first..first + volume.plan.index_map_blocks() {
-                volume.block_mut(lbn).fill(0xff);
-            }
+            volume.fill_index_map(0xff);
             // Unused slots are cleared, so that they are surely not whole.
             let last = volume.last_number();
             let used: Vec<u16> = volume.headers().map(|header| header.number).collect();

@@ -6,7 +6,7 @@
 
 use super::{add_header, still_sound, Flaw, Offenders};
 use crate::header::Header;
-use crate::volume::{Volume, MAP_BITS};
+use crate::volume::Volume;
 use model::Number;
 
 /// A flaw of LINKS. The edit gets the headers of the chained file, of which there are three or more.
@@ -86,9 +86,7 @@ fn numbers() -> Vec<Flaw> {
                     ..Header::new(number, 3, Vec::new())
                 };
                 added.put(volume.block_mut(lbn));
-                if u32::from(number) <= MAP_BITS * volume.plan.index_map_blocks() {
-                    volume.put_in_use(number, true);
-                }
+                volume.put_in_use_if_mapped(number);
                 let from = last(chain).number;
                 link(volume, from, number, 3);
                 Some(vec![from])
