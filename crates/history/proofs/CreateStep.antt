@@ -15,8 +15,8 @@ use Rattle.volume.proofs.VolumeLaws.{fmax-below}
 use Rattle.sound.proofs.ChainLaws.{member-used}
 use Rattle.fresh_header.specs.Fresh.{freshHeader}
 use Rattle.fresh_header.proofs.FreshLaws.{fresh-is}
-use Rattle.spare_number.specs.SpareNumber.{spareNumber, newSequence}
-use Rattle.update.specs.Create.{createOutcome, withFile, withNumber}
+use Rattle.spare_number.specs.SpareNumber.{spareNumber}
+use Rattle.update.specs.Create.{createOutcome, withFile, withNumber, newSequence}
 use Rattle.update.proofs.Effects.{Good}
 use Rattle.update.proofs.FrameLaws.{volume-same, record-same, slots-same, header-same, opens-after, kept}
 use Rattle.update.proofs.PassedLaws.{CreatePassed, create-passed}

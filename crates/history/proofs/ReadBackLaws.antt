@@ -31,8 +31,7 @@ use Rattle.update.specs.declared.answers.Extended.{Extended}
 use Rattle.update.specs.declared.answers.Extended.the-variants as extends
 use Rattle.update.specs.declared.answers.Deleted.{Deleted}
 use Rattle.update.specs.declared.answers.Deleted.the-variants as deletes
-use Rattle.spare_number.specs.SpareNumber.{newSequence}
-use Rattle.update.specs.Create.{createOutcome, newId, created, createAnswer}
+use Rattle.update.specs.Create.{createOutcome, newId, created, createAnswer, newSequence}
 use Rattle.update.specs.Extend.{runStart, extendOutcome, extended, extendAnswer}
 use Rattle.update.specs.Delete.{deleteOutcome, deleted, deleteAnswer}
 use Rattle.update.proofs.Effects.{Good, Extended as Extends}

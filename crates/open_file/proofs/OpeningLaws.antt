@@ -20,20 +20,19 @@ use Rattle.volume.specs.Opening.{openVolume}
 use Rattle.chains.specs.Chains.{goodChain, IsFirst}
 use Rattle.chains.specs.Finding.{findNumber}
 use Rattle.chains.proofs.FindingLaws.{find-is}
+use Rattle.open_file.specs.declared.OpenedOn.{OpenedOn}
 use Rattle.open_file.specs.declared.OpenFile.{OpenFile}
 use Rattle.open_file.specs.Opening.{find, access, chained, openFile, Tells, TellsPlaces}
 use Rattle.header.specs.Flags.{locked}
 
 -- A refusal tells nothing but itself.
-pub tells-refused : (image : List ℕ) (id : FileId) (result : Outcome) (r : Refusal) (file : OpenFile)
+pub tells-refused : (image : List ℕ) (id : FileId) (result : Outcome) (r : Refusal) (file : OpenedOn)
     → result ≡ Refused r → file .outcome ≡ Refused r → file .blocks ≡ 0 → Tells image id result file
 tells-refused image id result r file e o b = (o ∙ sym e, λ p. absurd (refused-not r (sym e ∙ p)), omega arith)
 
 pub places-refused : (image : List ℕ) (id : FileId) (result : Outcome) (r : Refusal) (file : OpenFile) (at : List ℕ)
     → result ≡ Refused r → file .outcome ≡ Refused r → file .blocks ≡ 0 → TellsPlaces image id result file at
-places-refused image id result r file at e o b =
-    let t = tells-refused image id result r file e o b in
-    (t .0, t .1, t .2, λ p. absurd (refused-not r (sym e ∙ p)))
+places-refused image id result r file at e o b = (o ∙ sym e, λ p. absurd (refused-not r (sym e ∙ p)), omega arith, λ p. absurd (refused-not r (sym e ∙ p)))
 
 module _ (image : List ℕ) (id : FileId) where
   -- What finding a header comes to, by its tests.

@@ -16,6 +16,7 @@ use Rattle.volume.specs.Volume.{slot, header, volumeOf, placesOf}
 use Rattle.volume.specs.Opening.{openVolume}
 use Rattle.chains.specs.Chains.{goodChain, fileBlocks}
 use Rattle.chains.specs.Finding.{findNumber}
+use Rattle.open_file.specs.declared.OpenedOn.{OpenedOn}
 use Rattle.open_file.specs.declared.OpenFile.{OpenFile}
 use Rattle.open_file.specs.declared.OpenedFile.{OpenedFile}
 use Rattle.open_file.specs.declared.OpenedFile.the-variants.{Done, Refused}
@@ -41,16 +42,15 @@ chained image id = unless (goodChain image (id .number)) refusal.Chain
 unfoldable pub openFile : List ℕ → FileId → Outcome
 openFile image id = openVolume image then find image id then access image id then chained image id
 
--- What the calls that go on from an opened file are told: the outcome, and where that is passed the volume, how many blocks the file has and the
--- LBN of its first header. There are never more blocks than 256 headers with 127 pointers of 256 blocks can cover: 8,323,072.
-abbrev pub Tells : List ℕ → FileId → Outcome → OpenFile → Type 0
+-- What the calls that go on from an opened file are told: the outcome, and where that is passed how many blocks the file has and the LBN of its first
+-- header. There are never more blocks than 256 headers with 127 pointers of 256 blocks can cover: 8,323,072.
+abbrev pub Tells : List ℕ → FileId → Outcome → OpenedOn → Type 0
 Tells image id result file =
     (file .outcome ≡ result)
-    × (result ≡ outcome.Passed
-    → (file .volume ≡ volumeOf image) × (file .blocks ≡ length (fileBlocks image (id .number))) × (file .header .0 ≡ slot image (id .number)))
+    × (result ≡ outcome.Passed → (file .blocks ≡ length (fileBlocks image (id .number))) × (file .header .0 ≡ slot image (id .number)))
     × (file .blocks ≤ 8323072)
 
--- The same, with the places of the volume record.
+-- The same, with the volume record.
 abbrev pub TellsPlaces : List ℕ → FileId → Outcome → OpenFile → List ℕ → Type 0
 TellsPlaces image id result file at =
     (file .outcome ≡ result)

@@ -36,6 +36,15 @@ pub enum OpenedFile {
     Refused(Refusal),
 }
 
+// What opening a file on an opened volume comes to.
+pub struct OpenedOn {
+    pub outcome: Outcome,
+    // The LBN of its first header; it says nothing where the outcome is a refusal.
+    pub header: Lbn,
+    // How many blocks the file has.
+    pub blocks: u32,
+}
+
 // What opening a file comes to, for the calls that go on from there.
 pub struct OpenFile {
     pub outcome: Outcome,
@@ -90,36 +99,34 @@ fn access(h: &[u8]) -> Outcome
 }
 
 // A refusal.
-fn refused(v: Volume, r: Refusal) -> OpenFile
+fn refused(r: Refusal) -> OpenedOn
     ensures { λ o. ⌜ (o .outcome ≡ outcome.Refused r) × (o .blocks ≡ 0) ⌝ }
 {
-    OpenFile {
+    OpenedOn {
         outcome: Outcome::Refused(r),
-        volume: v,
         header: Lbn(0),
         blocks: 0,
     }
 }
 
 // The chain of a file to which there is access: CHAIN.
-fn open_chain(image: &[u8], v: Volume, places: &Places, id: FileId, lbn: Lbn) -> OpenFile
+fn open_chain(image: &[u8], v: Volume, places: &Places, id: FileId, lbn: Lbn) -> OpenedOn
     requires { ⌜ Recorded (now image) v (now places) × IsFirst (now image) (id .number) × (lbn .0 ≡ slot (now image) (id .number)) ⌝ }
     ensures { λ r. ⌜ Tells (now (image .entry)) id (chained (now (image .entry)) id) r ⌝ }
 {
     let found = chain_blocks(image, v, places, FileNumber(id.number as u32), lbn);
     match found {
-        Chain::Good(blocks) => OpenFile {
+        Chain::Good(blocks) => OpenedOn {
             outcome: Outcome::Passed,
-            volume: v,
             header: lbn,
             blocks,
         },
-        Chain::Bad => refused(v, Refusal::Chain),
+        Chain::Bad => refused(Refusal::Chain),
     }
 }
 
 // Opens a file on an opened volume.
-pub fn open_on(image: &[u8], v: Volume, places: &Places, id: FileId) -> OpenFile
+pub fn open_on(image: &[u8], v: Volume, places: &Places, id: FileId) -> OpenedOn
     requires { ⌜ Recorded (now image) v (now places) ⌝ }
     ensures { λ r. ⌜ Tells (now (image .entry)) id (find (now (image .entry)) id then access (now (image .entry)) id then chained (now (image .entry)) id) r ⌝ }
 {
@@ -131,15 +138,14 @@ pub fn open_on(image: &[u8], v: Volume, places: &Places, id: FileId) -> OpenFile
             let admitted = access(block(image, lbn.0));
             match admitted {
                 Outcome::Passed => open_chain(image, v, places, id, lbn),
-                Outcome::Refused(r) => refused(v, r),
+                Outcome::Refused(r) => refused(r),
             }
         }
-        Outcome::Refused(r) => refused(v, r),
+        Outcome::Refused(r) => refused(r),
     }
 }
 
-// Opens a file. The volume record that is handed on is what opening the volume gave, and not the copy that came back with the file; its places are left
-// in the array lent for them.
+// Opens a file. The volume record that is handed on is what opening the volume gave; its places are left in the array lent for them.
 pub fn open(image: &[u8], places: &mut Places, id: FileId) -> OpenFile
     requires { ⌜ now places ≡ zeros 256 ⌝ }
     ensures { λ r. ⌜ TellsPlaces (now (image .entry)) id (openFile (now (image .entry)) id) r (now (places .exit)) ⌝ }
@@ -159,7 +165,12 @@ pub fn open(image: &[u8], places: &mut Places, id: FileId) -> OpenFile
                 blocks: file.blocks,
             }
         }
-        Outcome::Refused(r) => refused(v, r),
+        Outcome::Refused(r) => OpenFile {
+            outcome: Outcome::Refused(r),
+            volume: v,
+            header: Lbn(0),
+            blocks: 0,
+        },
     }
 }
 

@@ -1,7 +1,7 @@
 -- The lowest spare file number.
 use mathlib.Core.Bool.{Bool, not, _&&_}
 use mathlib.Core.List.{List}
-use Prim.Native.Nat.{ℕ, _+_, _-_}
+use Prim.Native.Nat.{ℕ, _-_}
 use lib.Dec.{ltb}
 use Rattle.lists.specs.First.{first}
 use Rattle.header.specs.Fields.{hFseq}
@@ -14,7 +14,3 @@ isSpare image n = not (inUse image n) && hasSlot image n && ltb (hFseq (header i
 -- 01, Create: "the lowest n from 6 to H.FMAX with ..". H.FMAX + 1 where there is none.
 unfoldable pub spareNumber : List ℕ → ℕ
 spareNumber image = first (isSpare image) 6 (fmax image - 5)
-
--- 01, Create: "The sequence is that word plus 1."
-unfoldable pub newSequence : List ℕ → ℕ → ℕ
-newSequence image n = hFseq (header image n) + 1

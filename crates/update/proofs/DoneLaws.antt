@@ -22,8 +22,8 @@ use Rattle.chains.specs.Chains.{chainOf, lastNumber}
 use Rattle.open_file.specs.Opening.{openFile}
 use Rattle.verdict.specs.Verdict.{verdict, afterwards}
 use Rattle.sound.proofs.ExactLaws.{verdict-judges}
-use Rattle.spare_number.specs.SpareNumber.{spareNumber, newSequence}
-use Rattle.update.specs.Create.{createTests, createOutcome, withFile, createImage}
+use Rattle.spare_number.specs.SpareNumber.{spareNumber}
+use Rattle.update.specs.Create.{createTests, createOutcome, withFile, createImage, newSequence}
 use Rattle.update.specs.Extend.{isKnownNumber, isCount, hasRoom, runStart, hasRun, extendTests, extendOutcome, withBlocks, extendImage}
 use Rattle.header.specs.Flags.{isFixed}
 use Rattle.update.specs.Delete.{deleteTests, deleteOutcome, withoutNumbers, deleteImage}

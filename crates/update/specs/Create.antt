@@ -1,6 +1,6 @@
 -- Create: its answer, and the image after it.
 use mathlib.Core.List.{List, [], _∷_}
-use Prim.Native.Nat.{ℕ, _-_}
+use Prim.Native.Nat.{ℕ, _+_, _-_}
 use lib.Dec.{leb}
 use Rattle.image.specs.Stores.{putBlock, putMapBits}
 use Rattle.answer.specs.declared.types.FileId.{FileId}
@@ -10,13 +10,18 @@ use Rattle.answer.specs.declared.outcome.Outcome.{Outcome}
 use Rattle.answer.specs.declared.outcome.Outcome.the-variants as outcome
 use Rattle.answer.specs.Outcome.{unless, _then_}
 use Rattle.names.specs.Names.{proper}
+use Rattle.header.specs.Fields.{hFseq}
 use Rattle.fresh_header.specs.Fresh.{freshHeader}
-use Rattle.volume.specs.Volume.{ibsz, iblb, fmax, slot}
+use Rattle.volume.specs.Volume.{ibsz, iblb, fmax, slot, header}
 use Rattle.verdict.specs.Verdict.{verdict, afterwards}
 use Rattle.update.specs.declared.answers.Created.{Created}
 use Rattle.update.specs.declared.answers.Created.the-variants.{Done, Refused}
 use Rattle.update.specs.Writes.{usedBit}
-use Rattle.spare_number.specs.SpareNumber.{newSequence, spareNumber}
+use Rattle.spare_number.specs.SpareNumber.{spareNumber}
+
+-- 01, Create: "The sequence is that word plus 1."
+unfoldable pub newSequence : List ℕ → ℕ → ℕ
+newSequence image n = hFseq (header image n) + 1
 
 -- 01, Answer numbers: "then by number", of which create has "14 NAME | not proper" and "27 NONUMBER | create finds no n". What create asks of a volume
 -- that is judged.

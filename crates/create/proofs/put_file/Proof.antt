@@ -13,8 +13,7 @@ use Rattle.volume.specs.Volume.{mapBlocks}
 use Rattle.volume.specs.Opening.{Laid}
 use Rattle.volume.proofs.VolumeLaws.{Opens, opens, says, slot-below}
 use Rattle.slots.proofs.SlotLaws.{opened-fmax}
-use Rattle.update.specs.Create.{newId, indexBit, withNumber, withFile}
-use Rattle.spare_number.specs.SpareNumber.{newSequence}
+use Rattle.update.specs.Create.{newId, indexBit, withNumber, withFile, newSequence}
 use Rattle.update.proofs.PassedLaws.{Spare, free-spare}
 use Rattle.create.proofs.put_file.Statement.{statement}
 use Rattle.create.proofs.put_file.Tie as tie

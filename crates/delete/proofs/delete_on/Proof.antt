@@ -48,7 +48,7 @@ delete-chain-requires : tie.Need-delete-chain-requires
 delete-chain-requires c κs =
     let t = c .before .before .before in
     let o = opened (image t) (id t) (passed t) in
-    (start t .pre .0, start t .pre .1, o .found .first, o .chain, omega arith, opening t .open-on .ensures .1 (row t) .2)
+    (start t .pre .0, start t .pre .1, o .found .first, o .chain, omega arith, opening t .open-on .ensures .1 (row t) .1)
 
 returns-2 : tie.Need-returns-2
 returns-2 c =

@@ -35,7 +35,7 @@ module _ (c : tie.After-enum-told) where
   file = opened image (start .args .id) (finding-is image (start .args .id) (start .pre .0) ∙ passed)
 
   lies : found .open-on .result .header .0 ≡ slot image n
-  lies = found .open-on .ensures .1 passed .2
+  lies = found .open-on .ensures .1 passed .1
 
 asked : (c : tie.After-admit) → let t = c .before .before in c .admit .result ≡ admits (header (image t) (n t)) (n t) (start t .args .c)
 unfolding header

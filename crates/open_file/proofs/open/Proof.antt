@@ -1,6 +1,6 @@
 -- The volume is opened first.
 use borrow.Author.Needs.{needs}
-use mathlib.Core.Path.{_≡_, sym, _∙_}
+use mathlib.Core.Path.{_≡_, refl, sym, _∙_}
 use denote.Ref.{now}
 use Rattle.answer.specs.Outcome.{_then_}
 use Rattle.answer.proofs.OutcomeLaws.{then-passed, then-refused}
@@ -30,20 +30,20 @@ returns c =
     let a = t .before .before .before .before .before .before .args in
     let o = t .before .before .before in
     let told = c .before .open-on .ensures in
-    rw (then-passed (openVolume (now (a .image))) _ (passed t)) (told .0, λ p. (o .open .ensures .1 (passed t), told .1 p .1, told .1 p .2), told .2, λ p. o .open .ensures .2 (passed t))
+    rw (then-passed (openVolume (now (a .image))) _ (passed t)) (told .0, λ p. (o .open .ensures .1 (passed t), told .1 p .0, told .1 p .1), told .2, λ p. o .open .ensures .2 (passed t))
 
 returns-2 : tie.Need-returns-2
 unfolding openFile
 returns-2 c =
-    let d = c .before .before in
+    let d = c .before in
     let o = d .before .before .before in
     let a = o .before .before .before .args in
     let image = now (a .image) in
     places-refused image (a .id) _ _ _ _
     (then-refused (openVolume image) (find image (a .id) then access image (a .id) then chained image (a .id)) _ (sym (o .open .ensures .0) ∙ d .result .given .1))
-    (c .refused .ensures .0) (c .refused .ensures .1)
+    refl refl
 
 pub open-spec : {M : Type 1} → statement M
 open-spec =
     tie.close
-    (tie.spec open-requires (search needs) open-on-requires (search needs) (search needs) returns returns-2)
+    (tie.spec open-requires (search needs) open-on-requires (search needs) returns returns-2)

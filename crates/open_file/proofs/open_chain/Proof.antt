@@ -20,7 +20,7 @@ returns c =
     let start = k .before in
     let image = now (start .args .image) in
     let g = counted image (start .args .id .number) _ (sym (b .chain-blocks .ensures) ∙ f .found .given .1) in
-    (sym (chained-passed image (start .args .id) (g .0)), λ p. (start .pre .0 .1, g .1, start .pre .2), omega (arith, g .1, file-most image (record { each = λ i. omega (arith, k .shared-slice-known .given i) }) (start .args .id .number)))
+    (sym (chained-passed image (start .args .id) (g .0)), λ p. (g .1, start .pre .2), omega (arith, g .1, file-most image (record { each = λ i. omega (arith, k .shared-slice-known .given i) }) (start .args .id .number)))
 
 returns-2 : tie.Need-returns-2
 returns-2 c =
