@@ -1,10 +1,12 @@
 -- The pointer is stored where the last one ends, and leaves the map area where it was.
-use mathlib.Core.Path.{_≡_, ap}
+use mathlib.Core.Path.{_≡_, ap, ap₂, _∙_}
+use Prim.Native.Nat.{ℕ, _+_, _*_}
 use native.Mathlib.Omega.{arith}
 use denote.Ref.{now}
 use borrow.Author.Needs.{needs}
 use Rattle.header.specs.Fields.{mapArea}
-use Rattle.header_edit.specs.Extended.{putPointer, nextPointer, extendedHeader}
+use Rattle.fresh_header.specs.Fresh.{sealed}
+use Rattle.header_edit.specs.Extended.{putPointer, nextPointer, putUse, extendedHeader}
 use Rattle.header_edit.proofs.ExtendedLaws.{next-inside, use-inside}
 use Rattle.header_edit.proofs.add_pointer.Statement.{statement}
 use Rattle.header_edit.proofs.add_pointer.Tie as tie
@@ -25,7 +27,17 @@ put-use-requires c κs =
 
 returns : tie.Need-returns
 unfolding extendedHeader nextPointer
-returns c = cc
+returns c =
+    let e = c .before .before in
+    let u = e .before .before .before .before in
+    let p = u .before .before .before .before in
+    let m = p .before .before in
+    let n = m .before .before in
+    let f = n .before .before in
+    let a = f .before .before .before .args in
+    let next : f .first-pointer .result + 4 * n .pointer-number .result ≡ nextPointer (now (a .h)) = omega (arith, f .first-pointer .ensures .0, n .pointer-number .ensures .0) in
+    e .seal .ensures
+    ∙ ap sealed (u .put-use .ensures ∙ ap₂ putUse (p .put-pointer .ensures ∙ ap (λ (at : ℕ). putPointer (now (a .h)) at (a .s) (a .c)) next) (ap (λ (w : ℕ). w + 2) (m .m-use .ensures)))
 
 pub add-pointer-spec : {M : Type 1} → statement M
 add-pointer-spec =
