@@ -48,7 +48,7 @@ fn first_unmarked(area: &[u8], count: u32) -> u32
 {
     let mut i: u32 = 0;
     while i < count {
-        if area[position(i) as usize] < 2 {
+        if area[position(i).0 as usize] < 2 {
             return i;
         }
         i += 1;
@@ -61,7 +61,7 @@ pub fn bad_home(image: &[u8], v: Volume, places: &Places, area: &mut [u8]) -> Ou
     requires { ⌜ Recorded (now image) v (now places) × (files (now image) ≡ Passed) × (links (now image) ≡ Passed) × (twice (now image) ≡ Passed) × (blocks (now image) ≤ length (now area)) × (now area ≡ tallied (covered (now image)) 0 (blocks (now image)) (now area)) ⌝ }
     ensures { λ r. ⌜ (r ≡ badHome (now (image .entry))) × (now (area .exit) ≡ now (area .entry)) ⌝ }
 {
-    let count = v.home / 256;
+    let count = v.home.0 / 256;
     if count == 0 {
         return Outcome::Passed;
     }
@@ -71,6 +71,6 @@ pub fn bad_home(image: &[u8], v: Volume, places: &Places, area: &mut [u8]) -> Ou
     if i == count {
         Outcome::Passed
     } else {
-        Outcome::Refused(Refusal::Badhome(position(i)))
+        Outcome::Refused(Refusal::Badhome(position(i).0))
     }
 }

@@ -42,24 +42,23 @@ pub fn members_of(image: &[u8], v: Volume, places: &Places, n: FileNumber, lbn: 
 {
     let mut numbers = [0u32; 256];
     let mut slots = [0u32; 256];
-    let mut number = n.0;
-    let mut at = lbn.0;
+    let mut number = n;
+    let mut at = lbn;
     let mut count: usize = 0;
     loop {
-        numbers[count] = number;
-        slots[count] = at;
+        numbers[count] = number.0;
+        slots[count] = at.0;
         count += 1;
-        let next = m_efnu(block(image, at)) as u32;
-        if next == 0 {
+        let next = FileNumber(m_efnu(block(image, at)) as u32);
+        if next.0 == 0 {
             return Members {
                 count,
                 numbers,
                 slots,
             };
         }
-        let found = slot_at(image, v, places, FileNumber(next));
+        at = slot_at(image, v, places, next);
         number = next;
-        at = found.0;
     }
 }
 
@@ -117,7 +116,7 @@ pub fn find_number(image: &[u8], total: u32, n: FileNumber, place: Slot) -> Find
 {
     match place {
         Slot::At(lbn) => {
-            let unmet = fault(block(image, lbn.0), total, n.0);
+            let unmet = fault(block(image, lbn), total, n);
             if unmet != 0 {
                 return unfound(Refusal::Header(unmet));
             }
@@ -135,14 +134,14 @@ pub fn follow(image: &[u8], v: Volume, places: &Places, h: &[u8]) -> Link
     requires { ⌜ Recorded (now image) v (now places) ⌝ }
     ensures { λ r. ⌜ r ≡ linkFrom (now (image .entry)) (now (h .entry)) ⌝ }
 {
-    let n = m_efnu(h) as u32;
-    if n == 0 {
+    let n = FileNumber(m_efnu(h) as u32);
+    if n.0 == 0 {
         return Link::End;
     }
-    let place = slot_in_use(image, v, places, FileNumber(n));
+    let place = slot_in_use(image, v, places, n);
     match place {
         Slot::At(lbn) => {
-            let next = block(image, lbn.0);
+            let next = block(image, lbn);
             if is_next(h, next, v.blocks, n) {
                 Link::To(lbn)
             } else {
@@ -158,7 +157,7 @@ pub fn header_of<'a>(image: &'a [u8], v: Volume, places: &Places, n: FileNumber)
     requires { ⌜ Recorded (now image) v (now places) × (isNumber (now image) (n .0) ≡ true) ⌝ }
     ensures { λ r. ⌜ now r ≡ header (now (image .entry)) (n .0) ⌝ }
 {
-    block(image, slot_at(image, v, places, n).0)
+    block(image, slot_at(image, v, places, n))
 }
 
 // The header that header h links to by M.EFNU, which is n and not 0, where its link is good.
@@ -181,7 +180,7 @@ pub fn chain_blocks(image: &[u8], v: Volume, places: &Places, n: FileNumber, lbn
     requires { ⌜ Recorded (now image) v (now places) × IsFirst (now image) (n .0) × (lbn .0 ≡ slot (now image) (n .0)) ⌝ }
     ensures { λ r. ⌜ r ≡ chainBlocks (now (image .entry)) (n .0) ⌝ }
 {
-    let mut h = block(image, lbn.0);
+    let mut h = block(image, lbn);
     let mut count: u32 = 0;
     loop {
         count += block_count(h);
@@ -194,7 +193,7 @@ pub fn chain_blocks(image: &[u8], v: Volume, places: &Places, n: FileNumber, lbn
                 return Chain::Good(count);
             }
             Link::To(next) => {
-                h = block(image, next.0);
+                h = block(image, next);
             }
             Link::Bad => {
                 return Chain::Bad;
@@ -209,12 +208,12 @@ pub fn lbn_at(image: &[u8], v: Volume, places: &Places, n: FileNumber, lbn: Lbn,
     requires { ⌜ Recorded (now image) v (now places) × IsFirst (now image) (n .0) × (goodChain (now image) (n .0) ≡ true) × (i < length (fileBlocks (now image) (n .0))) × (lbn .0 ≡ slot (now image) (n .0)) ⌝ }
     ensures { λ r. ⌜ r .0 ≡ getD (fileBlocks (now (image .entry)) (n .0)) i 0 ⌝ }
 {
-    let mut h = block(image, lbn.0);
+    let mut h = block(image, lbn);
     let mut left = i;
     loop {
         let count = block_count(h);
         if left < count {
-            return Lbn(lbn_in(h, left));
+            return lbn_in(h, left);
         }
         left -= count;
         let next = next_header(image, v, places, h, FileNumber(m_efnu(h) as u32));

@@ -45,18 +45,18 @@ pub fn raise_header(h: &[u8], area: &mut [u8])
     while p < number {
         let lbn = pointer_lbn(h, at + 4 * p);
         let c = pointer_count(h, at + 4 * p);
-        raise_run(area, lbn as usize, c as usize);
+        raise_run(area, lbn.0 as usize, c as usize);
         p += 1;
     }
 }
 
-// The same for number n, if its header is in use. The run stands at its slot.
-fn raise_number(image: &[u8], n: u32, used: bool, run: SlotRun, area: &mut [u8])
-    requires { ⌜ (openVolume (now image) ≡ Passed) × (files (now image) ≡ Passed) × (blocks (now image) ≤ length (now area)) × (used ≡ inUse (now image) n) × Stands (now image) n run ⌝ }
-    ensures { λ _. ⌜ now (area .exit) ≡ raisedBy (now (area .entry)) (cond (inUse (now (image .entry)) n) (blocksOf (header (now (image .entry)) n)) []) ⌝ }
+// The same for a number, if its header is in use. The run stands at its slot.
+fn raise_number(image: &[u8], n: FileNumber, used: bool, run: SlotRun, area: &mut [u8])
+    requires { ⌜ (openVolume (now image) ≡ Passed) × (files (now image) ≡ Passed) × (blocks (now image) ≤ length (now area)) × (used ≡ inUse (now image) (n .0)) × Stands (now image) (n .0) run ⌝ }
+    ensures { λ _. ⌜ now (area .exit) ≡ raisedBy (now (area .entry)) (cond (inUse (now (image .entry)) (n .0)) (blocksOf (header (now (image .entry)) (n .0))) []) ⌝ }
 {
     if used {
-        raise_header(block(image, run.lbn.0), area);
+        raise_header(block(image, run.lbn), area);
     }
 }
 
@@ -71,7 +71,7 @@ fn raise_headers(image: &[u8], v: Volume, places: &Places, area: &mut [u8])
     let mut run = slot_run(image, v, FileNumber(1));
     while n <= fmax {
         let used = bit_at(map, (n - 1) as usize) == 1;
-        raise_number(image, n, used, run, area);
+        raise_number(image, FileNumber(n), used, run, area);
         run = next_run(image, v, places, FileNumber(n), run);
         n += 1;
     }

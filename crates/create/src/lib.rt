@@ -48,23 +48,23 @@ fn put_file(
     image: &mut [u8],
     v: Volume,
     places: &Places,
-    n: u32,
+    n: FileNumber,
     name: Name,
     owner: u16,
     protection: u16,
 ) -> FileId
-    requires { ⌜ Recorded (now image) v (now places) × (n ≡ spareNumber (now image)) × (n ≤ v .fmax) ⌝ }
+    requires { ⌜ Recorded (now image) v (now places) × (n .0 ≡ spareNumber (now image)) × (n .0 ≤ v .fmax) ⌝ }
     ensures { λ r. ⌜ (r ≡ newId (now (image .entry))) × (now (image .exit) ≡ withFile (now (image .entry)) name owner protection) ⌝ }
 {
-    let lbn = slot_at(image, v, places, FileNumber(n));
-    let word = h_fseq(block(image, lbn.0));
+    let lbn = slot_at(image, v, places, n);
+    let word = h_fseq(block(image, lbn));
     let id = FileId {
-        number: n as u16,
+        number: n.0 as u16,
         sequence: word + 1,
         volume: 0,
     };
     put_header(image, lbn, id, owner, protection, name);
-    put_map_bit(image, v.iblb, v.ibsz, n - 1, 1);
+    put_map_bit(image, v.iblb, v.ibsz, n.0 - 1, 1);
     id
 }
 
@@ -86,7 +86,7 @@ pub fn create_on(
         return Created::Refused(Refusal::Name);
     }
     let n = spare_number(image, v, places);
-    if v.fmax < n {
+    if v.fmax < n.0 {
         return Created::Refused(Refusal::Nonumber);
     }
     Created::Done(put_file(image, v, places, n, name, owner, protection))

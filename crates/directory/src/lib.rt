@@ -28,9 +28,9 @@ ghost use Rattle.chains.specs.Chains.{fileBlocks};
 ghost use Rattle.directory.specs.Search.{entryOfFile, searchIn, Inside, FileOpen};
 
 // A run of blocks, as one retrieval pointer covers it.
-fn search_run(image: &[u8], lbn: u32, count: u32, from: u32, to: u32, w: Wanted) -> u32
-    requires { ⌜ (512 * (lbn + count) ≤ length (now image)) × (count ≤ 256) × (from ≤ to) ⌝ }
-    ensures { λ r. ⌜ (r ≡ searchIn (now (image .entry)) (numbersFrom lbn count) w from to) × (from ≤ r) × (r ≤ to) ⌝ }
+fn search_run(image: &[u8], lbn: Lbn, count: u32, from: u32, to: u32, w: Wanted) -> u32
+    requires { ⌜ (512 * (lbn .0 + count) ≤ length (now image)) × (count ≤ 256) × (from ≤ to) ⌝ }
+    ensures { λ r. ⌜ (r ≡ searchIn (now (image .entry)) (numbersFrom (lbn .0) count) w from to) × (from ≤ r) × (r ≤ to) ⌝ }
 {
     let end = least(to, 32 * count);
     if end <= from {
@@ -78,7 +78,7 @@ pub fn search_file(
     requires { ⌜ FileOpen (now image) v (now places) (n .0) × (from ≤ to) × (lbn .0 ≡ slot (now image) (n .0)) ⌝ }
     ensures { λ r. ⌜ (r ≡ searchIn (now (image .entry)) (fileBlocks (now (image .entry)) (n .0)) w from to) × (from ≤ r) × (r ≤ to) ⌝ }
 {
-    let mut h = block(image, lbn.0);
+    let mut h = block(image, lbn);
     let mut place = from;
     let mut start: u32 = 0;
     loop {
@@ -119,6 +119,6 @@ pub fn entry_of_file(
     ensures { λ e. ⌜ e ≡ entryOfFile (now (image .entry)) (n .0) r ⌝ }
 {
     let place = lbn_at(image, v, places, n, lbn, r / 32);
-    let b = block(image, place.0);
+    let b = block(image, place);
     entry_at(b, r % 32)
 }

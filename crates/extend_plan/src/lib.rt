@@ -77,7 +77,7 @@ fn find_run(image: &[u8], v: Volume, last: Lbn, c: u32) -> Plan
     requires { ⌜ Open (now image) v × (1 ≤ c) × (c ≤ 256) ⌝ }
     ensures { λ r. ⌜ r ≡ planned (unless (hasRoom (block (now (image .entry)) (last .0))) refusal.Full then unless (hasRun (now (image .entry)) c) refusal.Run) (last .0) (runStart (now (image .entry)) c) ⌝ }
 {
-    if has_room(block(image, last.0)) {
+    if has_room(block(image, last)) {
         let map = region(image, v.base, map_blocks(v.blocks));
         let start = lowest_run(map, v.blocks, c);
         match start {
@@ -99,7 +99,7 @@ pub fn plan_on(image: &[u8], v: Volume, places: &Places, id: FileId, c: u32) -> 
     let lbn = file.header;
     match opened {
         Outcome::Passed => {
-            let admitted = admit(block(image, lbn.0), id.number, c);
+            let admitted = admit(block(image, lbn), id.number, c);
             match admitted {
                 Outcome::Passed => {
                     let last = last_slot(image, v, places, FileNumber(id.number as u32), lbn);

@@ -68,7 +68,7 @@ pub fn describe(image: &[u8], id: FileId) -> Described
     let file = open(image, &mut places, id);
     let result = file.outcome;
     match result {
-        Outcome::Passed => { Described::Done(facts_of(block(image, file.header.0), file.blocks)) }
+        Outcome::Passed => { Described::Done(facts_of(block(image, file.header), file.blocks)) }
         Outcome::Refused(r) => Described::Refused(r),
     }
 }

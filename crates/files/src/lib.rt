@@ -31,7 +31,7 @@ ghost use Rattle.files.specs.Single.{isSingle, UnlinkedBelow, Unlinked};
 // What the search for the lowest offender finds.
 struct Search {
     // The offender; H.FMAX + 1 where there is none.
-    place: u32,
+    place: FileNumber,
     // Whether each header in use below it is the only one of its file.
     single: bool,
 }
@@ -54,8 +54,8 @@ fn is_bad_file(image: &[u8], v: Volume, n: FileNumber, used: bool, run: SlotRun)
     if run.left == 0 {
         return true;
     }
-    let h = block(image, run.lbn.0);
-    if fault(h, v.blocks, number) != 0 {
+    let h = block(image, run.lbn);
+    if fault(h, v.blocks, n) != 0 {
         return true;
     }
     if 5 < number {
@@ -71,14 +71,14 @@ fn is_single(image: &[u8], used: bool, lbn: Lbn) -> bool
     if !used {
         return true;
     }
-    let h = block(image, lbn.0);
+    let h = block(image, lbn);
     (m_efnu(h) == 0) & (segment(h) == 0)
 }
 
 // The lowest number that offends; H.FMAX + 1 where there is none. And whether each header in use below it is the only one of its file.
 fn first_bad_file(image: &[u8], v: Volume, places: &Places) -> Search
     requires { ⌜ Recorded (now image) v (now places) ⌝ }
-    ensures { λ r. ⌜ (r .place ≡ filesPlace (now (image .entry))) × (r .single ≡ true → UnlinkedBelow (now (image .entry)) (r .place)) ⌝ }
+    ensures { λ r. ⌜ (r .place .0 ≡ filesPlace (now (image .entry))) × (r .single ≡ true → UnlinkedBelow (now (image .entry)) (r .place .0)) ⌝ }
 {
     let map = region(image, v.iblb, v.ibsz);
     let mut run = slot_run(image, v, FileNumber(1));
@@ -87,13 +87,19 @@ fn first_bad_file(image: &[u8], v: Volume, places: &Places) -> Search
     while n <= v.fmax {
         let used = bit_at(map, (n - 1) as usize) == 1;
         if is_bad_file(image, v, FileNumber(n), used, run) {
-            return Search { place: n, single };
+            return Search {
+                place: FileNumber(n),
+                single,
+            };
         }
         single = single & is_single(image, used, run.lbn);
         run = next_run(image, v, places, FileNumber(n), run);
         n += 1;
     }
-    Search { place: n, single }
+    Search {
+        place: FileNumber(n),
+        single,
+    }
 }
 
 // The first test that the header of a number does not meet; 0 where the number is not in use, has no slot or its header is whole.
@@ -103,7 +109,7 @@ fn unmet_of(image: &[u8], v: Volume, places: &Places, n: FileNumber) -> u8
 {
     let place = slot_in_use(image, v, places, n);
     match place {
-        Slot::At(lbn) => fault(block(image, lbn.0), v.blocks, n.0),
+        Slot::At(lbn) => fault(block(image, lbn), v.blocks, n),
         Slot::Missing => 0,
     }
 }
@@ -116,15 +122,15 @@ pub fn files(image: &[u8], v: Volume, places: &Places) -> FilesJudged
     let search = first_bad_file(image, v, places);
     let place = search.place;
     let single = search.single;
-    if v.fmax < place {
+    if v.fmax < place.0 {
         return FilesJudged {
             outcome: Outcome::Passed,
             single,
         };
     }
-    let test = unmet_of(image, v, places, FileNumber(place));
+    let test = unmet_of(image, v, places, place);
     FilesJudged {
-        outcome: Outcome::Refused(Refusal::Files(place, test)),
+        outcome: Outcome::Refused(Refusal::Files(place.0, test)),
         single,
     }
 }

@@ -36,12 +36,12 @@ fn next_bit(map: &[u8], n: u32, b: u8, from: u32) -> u32
 }
 
 // The first run of free blocks from an LBN on, of an opened volume: ABSENT.
-fn free_on(image: &[u8], v: Volume, from: u32) -> Free
+fn free_on(image: &[u8], v: Volume, from: Lbn) -> Free
     requires { ⌜ Open (now image) v ⌝ }
-    ensures { λ r. ⌜ r ≡ freeRun (now (image .entry)) from ⌝ }
+    ensures { λ r. ⌜ r ≡ freeRun (now (image .entry)) (from .0) ⌝ }
 {
     let map = region(image, v.base, map_blocks(v.blocks));
-    let start = next_bit(map, v.blocks, 1, from);
+    let start = next_bit(map, v.blocks, 1, from.0);
     if v.blocks <= start {
         return Free::Refused(Refusal::Absent);
     }
@@ -58,7 +58,7 @@ pub fn free_run(image: &[u8], from: Lbn) -> Free
     let v = opened.volume;
     let result = opened.outcome;
     match result {
-        Outcome::Passed => free_on(image, v, from.0),
+        Outcome::Passed => free_on(image, v, from),
         Outcome::Refused(r) => Free::Refused(r),
     }
 }

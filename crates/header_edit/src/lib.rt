@@ -1,4 +1,5 @@
 // A header that a call changes: one retrieval pointer more, or its slot cleared.
+use answer::types::Lbn;
 use fresh_header::seal;
 use header::fields::h_fseq;
 use header::fields::m_use;
@@ -24,11 +25,12 @@ pub fn clear_slot(h: &mut [u8])
     put_word(h, 4, sequence);
 }
 
-// The pointer to the c blocks from LBN s on, at a byte of the header.
-fn put_pointer(h: &mut [u8], at: usize, s: u32, c: u32)
-    requires { ⌜ (at + 4 ≤ length (now h)) × (s < 2 ^ 24) × (1 ≤ c) × (c ≤ 256) ⌝ }
-    ensures { λ _. ⌜ now (h .exit) ≡ putPointer (now (h .entry)) at s c ⌝ }
+// The pointer to the c blocks from an LBN on, at a byte of the header.
+fn put_pointer(h: &mut [u8], at: usize, lbn: Lbn, c: u32)
+    requires { ⌜ (at + 4 ≤ length (now h)) × (lbn .0 < 2 ^ 24) × (1 ≤ c) × (c ≤ 256) ⌝ }
+    ensures { λ _. ⌜ now (h .exit) ≡ putPointer (now (h .entry)) at (lbn .0) c ⌝ }
 {
+    let s = lbn.0;
     h[at] = (s / 65536) as u8;
     h[at + 1] = (c - 1) as u8;
     put_word(h, at + 2, (s % 65536) as u16);
@@ -43,15 +45,15 @@ fn put_use(h: &mut [u8], words: u8)
     h[at + 8] = words;
 }
 
-// The pointer to the c blocks from LBN s on, after the last that the header has.
-pub fn add_pointer(h: &mut [u8], s: u32, c: u32)
-    requires { ⌜ (length (now h) ≡ 512) × (hMpof (now h) + 5 + mMax (now h) ≤ 255) × (mUse (now h) + 2 ≤ mMax (now h)) × (s < 2 ^ 24) × (1 ≤ c) × (c ≤ 256) ⌝ }
-    ensures { λ _. ⌜ now (h .exit) ≡ extendedHeader (now (h .entry)) s c ⌝ }
+// The pointer to the c blocks from an LBN on, after the last that the header has.
+pub fn add_pointer(h: &mut [u8], lbn: Lbn, c: u32)
+    requires { ⌜ (length (now h) ≡ 512) × (hMpof (now h) + 5 + mMax (now h) ≤ 255) × (mUse (now h) + 2 ≤ mMax (now h)) × (lbn .0 < 2 ^ 24) × (1 ≤ c) × (c ≤ 256) ⌝ }
+    ensures { λ _. ⌜ now (h .exit) ≡ extendedHeader (now (h .entry)) (lbn .0) c ⌝ }
 {
     let first = first_pointer(h);
     let number = pointer_number(h);
     let words = m_use(h);
-    put_pointer(h, first + 4 * number, s, c);
+    put_pointer(h, first + 4 * number, lbn, c);
     put_use(h, words + 2);
     seal(h);
 }

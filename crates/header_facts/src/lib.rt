@@ -80,7 +80,7 @@ fn show_header_on(image: &[u8], v: Volume, places: &Places, n: FileNumber) -> Sh
     let lbn = found.header;
     let result = found.outcome;
     match result {
-        Outcome::Passed => Shown::Done(facts_of(block(image, lbn.0))),
+        Outcome::Passed => Shown::Done(facts_of(block(image, lbn))),
         Outcome::Refused(r) => Shown::Refused(r),
     }
 }
@@ -110,12 +110,12 @@ fn show_pointer_on(image: &[u8], v: Volume, places: &Places, n: FileNumber, p: u
     let result = found.outcome;
     match result {
         Outcome::Passed => {
-            let h = block(image, lbn.0);
+            let h = block(image, lbn);
             if (pointer_number(h) as u32) <= p {
                 return Pointed::Refused(Refusal::Absent);
             }
             let at = first_pointer(h) + 4 * (p as usize);
-            Pointed::Done(Lbn(pointer_lbn(h, at)), pointer_count(h, at))
+            Pointed::Done(pointer_lbn(h, at), pointer_count(h, at))
         }
         Outcome::Refused(r) => Pointed::Refused(r),
     }

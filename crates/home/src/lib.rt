@@ -1,4 +1,5 @@
 // The home block: its fields, what makes a block one, and the search for it.
+use answer::types::Lbn;
 use image::blocks::block;
 use image::sums::checksum;
 use image::sums::checksum_on;
@@ -23,13 +24,13 @@ pub fn h_ibsz(b: &[u8]) -> u16
 }
 
 // H.IBLB, high word first.
-pub fn h_iblb(b: &[u8]) -> u32
+pub fn h_iblb(b: &[u8]) -> Lbn
     requires { ⌜ length (now b) ≡ 512 ⌝ }
-    ensures { λ r. ⌜ r ≡ hIblb (now (b .entry)) ⌝ }
+    ensures { λ r. ⌜ r .0 ≡ hIblb (now (b .entry)) ⌝ }
 {
     let high = word_at(b, 2);
     let low = word_at(b, 4);
-    65536 * (high as u32) + (low as u32)
+    Lbn(65536 * (high as u32) + (low as u32))
 }
 
 // H.FMAX.
@@ -66,7 +67,7 @@ fn has_home_fields(b: &[u8]) -> bool
     if h_ibsz(b) == 0 {
         return false;
     }
-    if h_iblb(b) == 0 {
+    if h_iblb(b).0 == 0 {
         return false;
     }
     if h_fmax(b) == 0 {
@@ -110,11 +111,11 @@ pub fn is_home(b: &[u8]) -> bool
 }
 
 // The LBN of home position i, from 0.
-pub fn position(i: u32) -> u32
+pub fn position(i: u32) -> Lbn
     requires { ⌜ i < 2 ^ 24 ⌝ }
-    ensures { λ r. ⌜ r ≡ position i ⌝ }
+    ensures { λ r. ⌜ r .0 ≡ position i ⌝ }
 {
-    if i == 0 { 1 } else { 256 * i }
+    if i == 0 { Lbn(1) } else { Lbn(256 * i) }
 }
 
 // Which position has the home, from 0, on a volume of n blocks; the number of positions where none has it.

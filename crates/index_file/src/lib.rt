@@ -1,6 +1,7 @@
 // The index file as opening finds it: header 1, the blocks that it must map, and the headers that follow it, each found in the part that those before
 // it map.
 use answer::types::FileNumber;
+use answer::types::Lbn;
 use header::fields::h_fseq;
 use header::fields::m_efnu;
 use header::fields::segment;
@@ -16,6 +17,7 @@ use volume::Volume;
 use volume::is_marked;
 use volume::is_next;
 use volume::place_among;
+use volume::slot_vbn;
 use whole::fault;
 ghost use mathlib.Core.Path.{_≡_};
 ghost use mathlib.Core.Bool.{true, _&&_};
@@ -36,9 +38,9 @@ fn walk(image: &[u8], v: Volume, places: &mut Places) -> usize
     ensures { λ r. ⌜ Walked (now (image .entry)) r (now (places .exit)) ⌝ }
 {
     let mut count: usize = 0;
-    let mut at = v.iblb + v.ibsz;
+    let mut at = Lbn(v.iblb.0 + v.ibsz);
     loop {
-        places[count] = at;
+        places[count] = at.0;
         count += 1;
         let h = block(image, at);
         let n = m_efnu(h) as u32;
@@ -52,14 +54,14 @@ fn walk(image: &[u8], v: Volume, places: &mut Places) -> usize
         if !used {
             return 0;
         }
-        let place = place_among(image, places, count, 1 + v.ibsz + n);
+        let place = place_among(image, places, count, slot_vbn(v.ibsz, FileNumber(n)));
         match place {
             Place::At(lbn) => {
-                let next = block(image, lbn.0);
-                if !is_next(h, next, v.blocks, n) {
+                let next = block(image, lbn);
+                if !is_next(h, next, v.blocks, FileNumber(n)) {
                     return 0;
                 }
-                at = lbn.0;
+                at = lbn;
             }
             Place::Past(_) => {
                 return 0;
@@ -74,35 +76,35 @@ pub fn headers_of(image: &[u8], v: Volume, h1: &[u8], places: &mut Places) -> us
     ensures { λ r. ⌜ Walked (now (image .entry)) r (now (places .exit)) ⌝ }
 {
     if m_efnu(h1) == 0 {
-        places[0] = v.iblb + v.ibsz;
+        places[0] = v.iblb.0 + v.ibsz;
         return 1;
     }
     walk(image, v, places)
 }
 
 // The LBN of block i, from 0, of the index file.
-fn index_lbn(home: u32, iblb: u32, i: u32) -> u32
-    requires { ⌜ iblb + i < 2 ^ 32 ⌝ }
-    ensures { λ r. ⌜ r ≡ indexLbn home iblb i ⌝ }
+fn index_lbn(home: Lbn, iblb: Lbn, i: u32) -> Lbn
+    requires { ⌜ iblb .0 + i < 2 ^ 32 ⌝ }
+    ensures { λ r. ⌜ r .0 ≡ indexLbn (home .0) (iblb .0) i ⌝ }
 {
     if i == 0 {
-        return 0;
+        return Lbn(0);
     }
     if i == 1 {
         return home;
     }
-    iblb + (i - 2)
+    Lbn(iblb.0 + (i - 2))
 }
 
 // Whether the c blocks from an LBN on are blocks k, k + 1 and so on of the index file. From its block 2 on the LBNs of both rise by one, so the
 // first such block decides for the rest.
-fn is_index_run(lbn: u32, c: u32, home: u32, iblb: u32, k: u32) -> bool
-    requires { ⌜ (lbn + c < 2 ^ 32) × (iblb + k + c < 2 ^ 32) ⌝ }
-    ensures { λ r. ⌜ r ≡ below c (λ i. eqb (lbn + i) (indexLbn home iblb (k + i))) ⌝ }
+fn is_index_run(lbn: Lbn, c: u32, home: Lbn, iblb: Lbn, k: u32) -> bool
+    requires { ⌜ (lbn .0 + c < 2 ^ 32) × (iblb .0 + k + c < 2 ^ 32) ⌝ }
+    ensures { λ r. ⌜ r ≡ below c (λ i. eqb (lbn .0 + i) (indexLbn (home .0) (iblb .0) (k + i))) ⌝ }
 {
     let mut i: u32 = 0;
     while i < c {
-        if lbn + i != index_lbn(home, iblb, k + i) {
+        if lbn.0 + i != index_lbn(home, iblb, k + i).0 {
             return false;
         }
         if 2 <= k + i {
@@ -114,9 +116,9 @@ fn is_index_run(lbn: u32, c: u32, home: u32, iblb: u32, k: u32) -> bool
 }
 
 // Whether a header is that of number n, sequence n, segment 0, and whole, on a volume of so many blocks.
-pub fn is_head(h: &[u8], blocks: u32, n: u32) -> bool
+pub fn is_head(h: &[u8], blocks: u32, n: FileNumber) -> bool
     requires { ⌜ length (now h) ≡ 512 ⌝ }
-    ensures { λ r. ⌜ r ≡ heads blocks n (now (h .entry)) ⌝ }
+    ensures { λ r. ⌜ r ≡ heads blocks (n .0) (now (h .entry)) ⌝ }
 {
     let test = fault(h, blocks, n);
     if test != 0 {
@@ -124,13 +126,13 @@ pub fn is_head(h: &[u8], blocks: u32, n: u32) -> bool
     }
     let fseq = h_fseq(h);
     let number = segment(h);
-    ((fseq as u32) == n) & (number == 0)
+    ((fseq as u32) == n.0) & (number == 0)
 }
 
 // Whether the first m + 18 blocks of a header are those of the index file. Its pointers are walked in order, as far as these blocks go.
-fn is_index_mapped(h: &[u8], home: u32, iblb: u32, m: u32) -> bool
-    requires { ⌜ Fits (now h) × (iblb < 2 ^ 31) × (m < 2 ^ 30) ⌝ }
-    ensures { λ r. ⌜ r ≡ indexMapped home iblb m (blocksOf (now (h .entry))) ⌝ }
+fn is_index_mapped(h: &[u8], home: Lbn, iblb: Lbn, m: u32) -> bool
+    requires { ⌜ Fits (now h) × (iblb .0 < 2 ^ 31) × (m < 2 ^ 30) ⌝ }
+    ensures { λ r. ⌜ r ≡ indexMapped (home .0) (iblb .0) m (blocksOf (now (h .entry))) ⌝ }
 {
     let at = first_pointer(h);
     let number = pointer_number(h);
@@ -152,11 +154,11 @@ fn is_index_mapped(h: &[u8], home: u32, iblb: u32, m: u32) -> bool
 }
 
 // Whether header 1 is the index file's first, on a volume of so many blocks.
-pub fn is_indexed(h: &[u8], blocks: u32, home: u32, iblb: u32, m: u32) -> bool
-    requires { ⌜ (length (now h) ≡ 512) × (iblb < 2 ^ 31) × (m < 2 ^ 30) ⌝ }
-    ensures { λ r. ⌜ r ≡ (heads blocks 1 (now (h .entry)) && indexMapped home iblb m (blocksOf (now (h .entry)))) ⌝ }
+pub fn is_indexed(h: &[u8], blocks: u32, home: Lbn, iblb: Lbn, m: u32) -> bool
+    requires { ⌜ (length (now h) ≡ 512) × (iblb .0 < 2 ^ 31) × (m < 2 ^ 30) ⌝ }
+    ensures { λ r. ⌜ r ≡ (heads blocks 1 (now (h .entry)) && indexMapped (home .0) (iblb .0) m (blocksOf (now (h .entry)))) ⌝ }
 {
-    let head = is_head(h, blocks, 1);
+    let head = is_head(h, blocks, FileNumber(1));
     if !head {
         return false;
     }

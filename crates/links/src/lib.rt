@@ -37,28 +37,29 @@ ghost use Rattle.files.specs.Files.{files};
 ghost use Rattle.links.specs.Links.{linked, raisedLink, linksWanted, badLinks, linksPlace, links};
 ghost use Rattle.files.specs.Single.{Unlinked};
 
-// The mark of number t raised, if t is from 1 to H.FMAX.
-fn raise_link(headers: &mut [u8], fmax: u32, t: u32)
+// The mark of a number raised, if it is from 1 to H.FMAX.
+fn raise_link(headers: &mut [u8], fmax: u32, n: FileNumber)
     requires { ⌜ fmax ≤ length (now headers) ⌝ }
-    ensures { λ _. ⌜ now (headers .exit) ≡ raisedLink (now (headers .entry)) fmax t ⌝ }
+    ensures { λ _. ⌜ now (headers .exit) ≡ raisedLink (now (headers .entry)) fmax (n .0) ⌝ }
 {
-    if t < 1 {
+    let number = n.0;
+    if number < 1 {
         return;
     }
-    if fmax < t {
+    if fmax < number {
         return;
     }
-    raise(headers, (t - 1) as usize);
+    raise(headers, (number - 1) as usize);
 }
 
 // M.EFNU of the header at an LBN, where its number is in use; else 0, which names no number.
-fn link_of(image: &[u8], used: bool, lbn: Lbn) -> u32
-    ensures { λ r. ⌜ r ≡ cond used (mEfnu (block (now (image .entry)) (lbn .0))) 0 ⌝ }
+fn link_of(image: &[u8], used: bool, lbn: Lbn) -> FileNumber
+    ensures { λ r. ⌜ r .0 ≡ cond used (mEfnu (block (now (image .entry)) (lbn .0))) 0 ⌝ }
 {
     if !used {
-        return 0;
+        return FileNumber(0);
     }
-    m_efnu(block(image, lbn.0)) as u32
+    FileNumber(m_efnu(block(image, lbn)) as u32)
 }
 
 // For each header in use, the mark of the number that it links to raised.
@@ -99,7 +100,7 @@ fn has_good_link(image: &[u8], v: Volume, places: &Places, h: &[u8]) -> bool
     let place = slot_in_use(image, v, places, FileNumber(n));
     match place {
         Slot::At(lbn) => {
-            let next = block(image, lbn.0);
+            let next = block(image, lbn);
             (h_fseq(next) == m_efsq(h)) & ((segment(next) as u16) == (segment(h) as u16) + 1)
         }
         Slot::Missing => false,
@@ -130,7 +131,7 @@ fn is_bad_link(
     if !used {
         return false;
     }
-    let h = block(image, run.lbn.0);
+    let h = block(image, run.lbn);
     if mark != links_wanted(h) {
         return true;
     }
@@ -139,10 +140,10 @@ fn is_bad_link(
 }
 
 // The lowest number that offends; H.FMAX + 1 where there is none.
-fn first_bad_link(image: &[u8], v: Volume, places: &Places, headers: &[u8]) -> u32
+fn first_bad_link(image: &[u8], v: Volume, places: &Places, headers: &[u8]) -> FileNumber
     requires { ⌜ Recorded (now image) v (now places) × (files (now image) ≡ outcome.Passed) × (fmax (now image) ≤ length (now headers))
         × (now headers ≡ tallied (linked (now image)) 1 (fmax (now image)) (now headers)) ⌝ }
-    ensures { λ r. ⌜ r ≡ linksPlace (now (image .entry)) ⌝ }
+    ensures { λ r. ⌜ r .0 ≡ linksPlace (now (image .entry)) ⌝ }
 {
     let map = region(image, v.iblb, v.ibsz);
     let mut run = slot_run(image, v, FileNumber(1));
@@ -151,12 +152,12 @@ fn first_bad_link(image: &[u8], v: Volume, places: &Places, headers: &[u8]) -> u
         let i = (n - 1) as usize;
         let used = bit_at(map, i) == 1;
         if is_bad_link(image, v, places, FileNumber(n), used, run, headers[i]) {
-            return n;
+            return FileNumber(n);
         }
         run = next_run(image, v, places, FileNumber(n), run);
         n += 1;
     }
-    n
+    FileNumber(n)
 }
 
 // LINKS, with the counts left in the marks. Where each header in use is known to be the only one of its file, LINKS is passed and the counts are 0.
@@ -173,8 +174,8 @@ pub fn links(image: &[u8], v: Volume, places: &Places, single: bool, headers: &m
     }
     count_links(image, v, places, headers);
     let place = first_bad_link(image, v, places, headers);
-    if v.fmax < place {
+    if v.fmax < place.0 {
         return Outcome::Passed;
     }
-    Outcome::Refused(Refusal::Links(place))
+    Outcome::Refused(Refusal::Links(place.0))
 }

@@ -51,7 +51,7 @@ pub fn block(image: &[u8], id: FileId, vbn: Vbn) -> &[u8]
 {
     let place = map(image, id, vbn);
     match place {
-        Mapped::Done(lbn) => image::blocks::block(image, lbn.0),
+        Mapped::Done(lbn) => image::blocks::block(image, lbn),
         Mapped::Refused(_) => &image[..0],
     }
 }

@@ -71,7 +71,7 @@ fn find(image: &[u8], v: Volume, places: &Places, id: FileId) -> Finding
     let result = found.outcome;
     match result {
         Outcome::Passed => {
-            let h = block(image, lbn.0);
+            let h = block(image, lbn);
             if h_fseq(h) != id.sequence {
                 return unfound(Refusal::Sequence);
             }
@@ -135,7 +135,7 @@ pub fn open_on(image: &[u8], v: Volume, places: &Places, id: FileId) -> OpenedOn
     let result = found.outcome;
     match result {
         Outcome::Passed => {
-            let admitted = access(block(image, lbn.0));
+            let admitted = access(block(image, lbn));
             match admitted {
                 Outcome::Passed => open_chain(image, v, places, id, lbn),
                 Outcome::Refused(r) => refused(r),

@@ -1,6 +1,7 @@
 // Opening a volume: SIZE, HOME, GEOMETRY, INDEX, STORAGE, in this order.
 use answer::outcome::Outcome;
 use answer::refusal::Refusal;
+use answer::types::FileNumber;
 use answer::types::Lbn;
 use header::fields::m_efnu;
 use home::h_fmax;
@@ -56,11 +57,11 @@ fn refused(r: Refusal) -> OpenVolume
 {
     let volume = Volume {
         blocks: 0,
-        home: 0,
+        home: Lbn(0),
         ibsz: 0,
-        iblb: 0,
+        iblb: Lbn(0),
         fmax: 0,
-        base: 0,
+        base: Lbn(0),
         segments: 0,
     };
     OpenVolume {
@@ -100,16 +101,16 @@ fn has_geometry(b: &[u8], n: u32) -> bool
     if (ibsz as u32) != ((fmax as u32) + 4095) / 4096 {
         return false;
     }
-    if (n as u64) < (iblb as u64) + (ibsz as u64) + 16 {
+    if (n as u64) < (iblb.0 as u64) + (ibsz as u64) + 16 {
         return false;
     }
     true
 }
 
 // Whether it is so, and without extension.
-fn is_alone(h: &[u8], blocks: u32, n: u32) -> bool
+fn is_alone(h: &[u8], blocks: u32, n: FileNumber) -> bool
     requires { ⌜ length (now h) ≡ 512 ⌝ }
-    ensures { λ r. ⌜ r ≡ alone blocks n (now (h .entry)) ⌝ }
+    ensures { λ r. ⌜ r ≡ alone blocks (n .0) (now (h .entry)) ⌝ }
 {
     let head = is_head(h, blocks, n);
     if !head {
@@ -146,7 +147,7 @@ fn is_stored(image: &[u8], h: &[u8], blocks: u32) -> bool
         && storageMapped (mapBlocks blocks) (now (h .entry))
         && eqb (byteAt (block (now (image .entry)) (getD (blocksOf (now (h .entry))) 0 0)) 3) (mapBlocks blocks)) ⌝ }
 {
-    let alone = is_alone(h, blocks, 2);
+    let alone = is_alone(h, blocks, FileNumber(2));
     if !alone {
         return false;
     }
@@ -165,7 +166,7 @@ fn open_laid_out(image: &[u8], v: Volume, places: &mut Places) -> OpenVolume
     requires { ⌜ (sized (now image) ≡ true) × (homed (now image) ≡ true) × (geometry (now image) ≡ true) × Laid (now image) v × (now places ≡ zeros 256) ⌝ }
     ensures { λ r. ⌜ TellsVolume (now (image .entry)) r (now (places .exit)) ⌝ }
 {
-    let h1 = block(image, v.iblb + v.ibsz);
+    let h1 = block(image, Lbn(v.iblb.0 + v.ibsz));
     let indexed = is_indexed(h1, v.blocks, v.home, v.iblb, v.ibsz);
     if !indexed {
         return refused(Refusal::Index);
@@ -174,19 +175,21 @@ fn open_laid_out(image: &[u8], v: Volume, places: &mut Places) -> OpenVolume
     if segments == 0 {
         return refused(Refusal::Index);
     }
-    let h2 = block(image, v.iblb + v.ibsz + 1);
+    let h2 = block(image, Lbn(v.iblb.0 + v.ibsz + 1));
     let stored = is_stored(image, h2, v.blocks);
     if !stored {
         return refused(Refusal::Storage);
     }
+    let home = v.home;
+    let iblb = v.iblb;
     let base = lbn_in(h2, 1);
     OpenVolume {
         outcome: Outcome::Passed,
         volume: Volume {
             blocks: v.blocks,
-            home: v.home,
+            home,
             ibsz: v.ibsz,
-            iblb: v.iblb,
+            iblb,
             fmax: v.fmax,
             base,
             segments,
@@ -195,8 +198,8 @@ fn open_laid_out(image: &[u8], v: Volume, places: &mut Places) -> OpenVolume
 }
 
 // Opens a volume of n blocks whose home lies at a known LBN.
-fn open_at(image: &[u8], n: u32, at: u32, places: &mut Places) -> OpenVolume
-    requires { ⌜ (sized (now image) ≡ true) × (homed (now image) ≡ true) × (n ≡ blocks (now image)) × (at ≡ home (now image)) × (now places ≡ zeros 256) ⌝ }
+fn open_at(image: &[u8], n: u32, at: Lbn, places: &mut Places) -> OpenVolume
+    requires { ⌜ (sized (now image) ≡ true) × (homed (now image) ≡ true) × (n ≡ blocks (now image)) × (at .0 ≡ home (now image)) × (now places ≡ zeros 256) ⌝ }
     ensures { λ r. ⌜ TellsVolume (now (image .entry)) r (now (places .exit)) ⌝ }
 {
     let b = block(image, at);
@@ -215,7 +218,7 @@ fn open_at(image: &[u8], n: u32, at: u32, places: &mut Places) -> OpenVolume
             ibsz,
             iblb,
             fmax,
-            base: 0,
+            base: Lbn(0),
             segments: 0,
         },
         places,
@@ -247,7 +250,7 @@ pub fn open_volume(image: &[u8]) -> Opened
     let o = open(image, &mut places);
     let result = o.outcome;
     match result {
-        Outcome::Passed => Opened::Done(Lbn(o.volume.home)),
+        Outcome::Passed => Opened::Done(o.volume.home),
         Outcome::Refused(r) => Opened::Refused(r),
     }
 }

@@ -26,11 +26,11 @@ pub enum Spot {
 }
 
 // The first LBN of the pointer at a byte of the header.
-pub fn pointer_lbn(h: &[u8], at: usize) -> u32
+pub fn pointer_lbn(h: &[u8], at: usize) -> Lbn
     requires { ⌜ at + 4 ≤ length (now h) ⌝ }
-    ensures { λ r. ⌜ (r ≡ pointerLbn (now (h .entry)) at) × (r < 2 ^ 24) ⌝ }
+    ensures { λ r. ⌜ (r .0 ≡ pointerLbn (now (h .entry)) at) × (r .0 < 2 ^ 24) ⌝ }
 {
-    65536 * wide(h[at]) + (word_at(h, at + 2) as u32)
+    Lbn(65536 * wide(h[at]) + (word_at(h, at + 2) as u32))
 }
 
 // How many blocks the pointer at a byte of the header covers.
@@ -85,7 +85,7 @@ pub fn spot_of(h: &[u8], i: u32) -> Spot
         let count = pointer_count(h, at + 4 * p);
         if left < count {
             let from = pointer_lbn(h, at + 4 * p);
-            return Spot::In(Lbn(from + left), count - left, p);
+            return Spot::In(Lbn(from.0 + left), count - left, p);
         }
         left -= count;
         p += 1;
@@ -106,13 +106,13 @@ pub fn place_of(h: &[u8], i: u32) -> Place
 }
 
 // The LBN of block i, from 0, of those that the header covers; 0 past the last.
-pub fn lbn_in(h: &[u8], i: u32) -> u32
+pub fn lbn_in(h: &[u8], i: u32) -> Lbn
     requires { ⌜ Fits (now h) ⌝ }
-    ensures { λ r. ⌜ r ≡ getD (blocksOf (now (h .entry))) i 0 ⌝ }
+    ensures { λ r. ⌜ r .0 ≡ getD (blocksOf (now (h .entry))) i 0 ⌝ }
 {
     let place = place_of(h, i);
     match place {
-        Place::At(l) => l.0,
-        Place::Past(_) => 0,
+        Place::At(lbn) => lbn,
+        Place::Past(_) => Lbn(0),
     }
 }

@@ -30,21 +30,21 @@ pub enum Row {
 }
 
 // What a row that is known up to some pointer comes to with the next pointer, of c blocks from an LBN on.
-fn carry_on(row: Row, from: u32, c: u32) -> Row
-    requires { ⌜ (c ≤ 256) × (from < 2 ^ 24) ⌝ }
-    ensures { λ r. ⌜ r ≡ carriedOn row from c ⌝ }
+fn carry_on(row: Row, from: Lbn, c: u32) -> Row
+    requires { ⌜ (c ≤ 256) × (from .0 < 2 ^ 24) ⌝ }
+    ensures { λ r. ⌜ r ≡ carriedOn row (from .0) c ⌝ }
 {
     match row {
         Row::Ahead(k) => {
             if k < c {
-                Row::Open(Lbn(from + k), c - k)
+                Row::Open(Lbn(from.0 + k), c - k)
             } else {
                 Row::Ahead(k - c)
             }
         }
         Row::Open(lbn, long) => {
             // In 64 bits the sum fits whatever the row.
-            if (lbn.0 as u64) + (long as u64) == (from as u64) {
+            if (lbn.0 as u64) + (long as u64) == (from.0 as u64) {
                 Row::Open(lbn, long + c)
             } else {
                 Row::Ended(lbn, long)
@@ -77,7 +77,7 @@ pub fn row_of(image: &[u8], v: Volume, places: &Places, n: FileNumber, lbn: Lbn,
     requires { ⌜ Recorded (now image) v (now places) × IsFirst (now image) (n .0) × (goodChain (now image) (n .0) ≡ true) × (lbn .0 ≡ slot (now image) (n .0)) ⌝ }
     ensures { λ r. ⌜ r ≡ rowIn (fileBlocks (now (image .entry)) (n .0)) i ⌝ }
 {
-    let mut h = block(image, lbn.0);
+    let mut h = block(image, lbn);
     let mut row = Row::Ahead(i);
     loop {
         row = row_over(h, row);

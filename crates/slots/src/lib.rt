@@ -2,6 +2,7 @@
 // stands in, so a pass over all numbers goes over the pointers once.
 use answer::types::FileNumber;
 use answer::types::Lbn;
+use answer::types::Vbn;
 use image::blocks::block;
 use image::blocks::block_inside;
 use pointers::Spot;
@@ -12,8 +13,9 @@ use pointers::pointer_number;
 use pointers::spot_of;
 use volume::Places;
 use volume::Volume;
+use volume::slot_vbn;
 ghost use mathlib.Core.Path.{_≡_};
-ghost use Prim.Native.Nat.{_+_, _≤_, _<_, _^_};
+ghost use Prim.Native.Nat.{_+_, _-_, _≤_, _<_, _^_};
 ghost use lib.ListN.{length};
 ghost use Rattle.pointers.specs.Pointers.{pointersAt, pointers, runs, Fits, blocksOf};
 ghost use Rattle.volume.specs.Opening.{Open, Recorded};
@@ -31,14 +33,14 @@ pub struct SlotRun {
     pub pointer: usize,
 }
 
-// The blocks in a row from place i, from 0, on, among the blocks that header 1 covers: those that are left of the pointer there.
-fn run_at(h: &[u8], i: u32) -> SlotRun
-    requires { ⌜ Fits (now h) ⌝ }
-    ensures { λ r. ⌜ RunOf (blocksOf (now (h .entry))) i r
+// The blocks in a row from a VBN on, among the blocks that header 1 covers: those that are left of the pointer there.
+fn run_at(h: &[u8], vbn: Vbn) -> SlotRun
+    requires { ⌜ Fits (now h) × (1 ≤ vbn .0) ⌝ }
+    ensures { λ r. ⌜ RunOf (blocksOf (now (h .entry))) (vbn .0 - 1) r
         × (1 ≤ r .left → (r .segment ≡ 0) × (r .pointer < pointers (now (h .entry)))
-        × (i + r .left ≡ length (runs (now (h .entry)) (pointersAt (now (h .entry))) (r .pointer + 1)))) ⌝ }
+        × (vbn .0 - 1 + r .left ≡ length (runs (now (h .entry)) (pointersAt (now (h .entry))) (r .pointer + 1)))) ⌝ }
 {
-    let spot = spot_of(h, i);
+    let spot = spot_of(h, vbn.0 - 1);
     match spot {
         Spot::In(lbn, left, pointer) => SlotRun {
             lbn,
@@ -60,8 +62,8 @@ pub fn slot_run(image: &[u8], v: Volume, n: FileNumber) -> SlotRun
     requires { ⌜ Open (now image) v × (n .0 ≤ 16) ⌝ }
     ensures { λ r. ⌜ Stands (now (image .entry)) (n .0) r ⌝ }
 {
-    let h = block(image, v.iblb + v.ibsz);
-    run_at(h, 1 + v.ibsz + n.0)
+    let h = block(image, Lbn(v.iblb.0 + v.ibsz));
+    run_at(h, slot_vbn(v.ibsz, n))
 }
 
 // The run of slots that begins at a file number, where pointer p of header k of the index file begins with its slot, or would: those of that pointer or,
@@ -74,11 +76,11 @@ fn run_from(image: &[u8], v: Volume, places: &Places, n: FileNumber, k: usize, p
     let mut segment = k;
     let mut pointer = p;
     while segment < count {
-        let h = block_inside(image, places[segment]);
+        let h = block_inside(image, Lbn(places[segment]));
         if pointer < pointer_number(h) {
             let at = first_pointer(h) + 4 * pointer;
             return SlotRun {
-                lbn: Lbn(pointer_lbn(h, at)),
+                lbn: pointer_lbn(h, at),
                 left: pointer_count(h, at),
                 segment,
                 pointer,

@@ -1,4 +1,5 @@
 // Stores: words, zeros, the bits of a map, and of a map that lies in blocks of an image.
+use answer::types::Lbn;
 ghost use mathlib.Core.Path.{_≡_};
 ghost use Prim.Native.Nat.{_+_, _/_, _^_, _≤_, _<_, _*_};
 ghost use lib.ListN.{length};
@@ -58,22 +59,22 @@ pub fn clear(b: &mut [u8])
     }
 }
 
-// Bit j of the map in the q blocks from LBN k on made v.
-pub fn put_map_bit(image: &mut [u8], k: u32, q: u32, j: u32, v: u8)
-    requires { ⌜ (512 * (k + q) ≤ length (now image)) × (j < 4096 * q) × (v < 2) ⌝ }
-    ensures { λ _. ⌜ now (image .exit) ≡ putMapBits (now (image .entry)) k q (j ∷ []) v ⌝ }
+// Bit j of the map in the q blocks from an LBN on made v.
+pub fn put_map_bit(image: &mut [u8], lbn: Lbn, q: u32, j: u32, v: u8)
+    requires { ⌜ (512 * (lbn .0 + q) ≤ length (now image)) × (j < 4096 * q) × (v < 2) ⌝ }
+    ensures { λ _. ⌜ now (image .exit) ≡ putMapBits (now (image .entry)) (lbn .0) q (j ∷ []) v ⌝ }
 {
-    let from = 512 * (k as usize);
+    let from = 512 * (lbn.0 as usize);
     let to = from + 512 * (q as usize);
     put_bit(&mut image[from..to], j as usize, v);
 }
 
-// The c bits from bit s on of the map in the q blocks from LBN k on, each made v.
-pub fn put_map_run(image: &mut [u8], k: u32, q: u32, s: u32, c: u32, v: u8)
-    requires { ⌜ (512 * (k + q) ≤ length (now image)) × (s + c ≤ 4096 * q) × (v < 2) ⌝ }
-    ensures { λ _. ⌜ now (image .exit) ≡ putMapBits (now (image .entry)) k q (numbersFrom s c) v ⌝ }
+// The c bits from bit s on of the map in the q blocks from an LBN on, each made v.
+pub fn put_map_run(image: &mut [u8], lbn: Lbn, q: u32, s: u32, c: u32, v: u8)
+    requires { ⌜ (512 * (lbn .0 + q) ≤ length (now image)) × (s + c ≤ 4096 * q) × (v < 2) ⌝ }
+    ensures { λ _. ⌜ now (image .exit) ≡ putMapBits (now (image .entry)) (lbn .0) q (numbersFrom s c) v ⌝ }
 {
-    let from = 512 * (k as usize);
+    let from = 512 * (lbn.0 as usize);
     let to = from + 512 * (q as usize);
     put_run(&mut image[from..to], s as usize, c as usize, v);
 }

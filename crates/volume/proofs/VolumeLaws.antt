@@ -208,13 +208,13 @@ index-slot image file n l h =
 
 -- What opening reads once the geometry is right.
 module _ (image : List ℕ) (v : Volume) (l : Laid image v) where
-  pub laid-room : sized image ≡ true → geometry image ≡ true → (v .iblb + v .ibsz + 16 ≤ v .blocks) × (v .blocks ≤ 1044480)
+  pub laid-room : sized image ≡ true → geometry image ≡ true → (v .iblb .0 + v .ibsz + 16 ≤ v .blocks) × (v .blocks ≤ 1044480)
   laid-room s g = (omega (arith, geometry-is image g .2, l .iblb, l .ibsz, l .blocks), omega (arith, sized-is image s .2, l .blocks))
 
-  pub laid-length : sized image ≡ true → geometry image ≡ true → (k : ℕ) → k < v .iblb + v .ibsz + 16 → length (block image k) ≡ 512
+  pub laid-length : sized image ≡ true → geometry image ≡ true → (k : ℕ) → k < v .iblb .0 + v .ibsz + 16 → length (block image k) ≡ 512
   laid-length s g k h = block-length image k (omega (arith, sized-is image s .0, laid-room s g .0, l .blocks))
 
-  pub laid-header1 : block image (v .iblb + v .ibsz) ≡ indexHeader image
+  pub laid-header1 : block image (v .iblb .0 + v .ibsz) ≡ indexHeader image
   unfolding indexHeader
   laid-header1 = rw (l .iblb, l .ibsz)
 
@@ -222,7 +222,7 @@ module _ (image : List ℕ) (v : Volume) (l : Laid image v) where
   abbrev pub begins : Bool
   begins = heads (blocks image) 1 (indexHeader image) && indexMapped (home image) (iblb image) (ibsz image) (blocksOf (indexHeader image))
 
-  pub laid-begins : (heads (v .blocks) 1 (indexHeader image) && indexMapped (v .home) (v .iblb) (v .ibsz) (blocksOf (indexHeader image))) ≡ begins
+  pub laid-begins : (heads (v .blocks) 1 (indexHeader image) && indexMapped (v .home .0) (v .iblb .0) (v .ibsz) (blocksOf (indexHeader image))) ≡ begins
   laid-begins = rw (l .blocks, l .home, l .iblb, l .ibsz)
 
   pub laid-indexed : (begins && indexEnds image) ≡ indexed image
@@ -233,7 +233,7 @@ module _ (image : List ℕ) (v : Volume) (l : Laid image v) where
   unfolding mapBlocks
   laid-mapped s g = (omega (arith, geometry-is image g), omega (arith, geometry-is image g, sized-is image s))
 
-  pub laid-header2 : indexed image ≡ true → block image (v .iblb + v .ibsz + 1) ≡ header image 2
+  pub laid-header2 : indexed image ≡ true → block image (v .iblb .0 + v .ibsz + 1) ≡ header image 2
   unfolding header
   laid-header2 t = ap (block image) (omega (arith, l .iblb, l .ibsz, index-slot image (index-whole image (indexed-gives image t .1)) 2 (omega arith) (omega arith)))
 
@@ -327,29 +327,29 @@ pub says : (image : List ℕ) (v : Volume) → v ≡ volumeOf image → Laid ima
 unfolding volumeOf
 says image v e = record {
   blocks = ap (λ (v : Volume). v .blocks) e;
-  home = ap (λ (v : Volume). v .home) e;
+  home = ap (λ (v : Volume). v .home .0) e;
   ibsz = ap (λ (v : Volume). v .ibsz) e;
-  iblb = ap (λ (v : Volume). v .iblb) e;
+  iblb = ap (λ (v : Volume). v .iblb .0) e;
   fmax = ap (λ (v : Volume). v .fmax) e;
 }
 
-pub says-base : (image : List ℕ) (v : Volume) → v ≡ volumeOf image → v .base ≡ base image
+pub says-base : (image : List ℕ) (v : Volume) → v ≡ volumeOf image → v .base .0 ≡ base image
 unfolding volumeOf
-says-base image v e = ap (λ (v : Volume). v .base) e
+says-base image v e = ap (λ (v : Volume). v .base .0) e
 
 pub says-segments : (image : List ℕ) (v : Volume) → v ≡ volumeOf image → v .segments ≡ length (places image)
 unfolding volumeOf
 says-segments image v e = ap (λ (v : Volume). v .segments) e
 
-pub says-all : (image : List ℕ) (v : Volume) → Laid image v → v .base ≡ base image → v .segments ≡ length (places image) → v ≡ volumeOf image
+pub says-all : (image : List ℕ) (v : Volume) → Laid image v → v .base .0 ≡ base image → v .segments ≡ length (places image) → v ≡ volumeOf image
 unfolding volumeOf
 says-all image v s e f = λ i. record {
   blocks = s .blocks i;
-  home = s .home i;
+  home = record { 0 = s .home i };
   ibsz = s .ibsz i;
-  iblb = s .iblb i;
+  iblb = record { 0 = s .iblb i };
   fmax = s .fmax i;
-  base = e i;
+  base = record { 0 = e i };
   segments = f i;
 }
 

@@ -103,7 +103,7 @@ Recorded image v at = (openVolume image ≡ outcome.Passed) × (v ≡ volumeOf i
 -- What v says of the image, but for the storage map.
 pub record Laid (image : List ℕ) (v : Volume) : Type 0 where
   pub blocks : v .blocks ≡ blocks image
-  pub home : v .home ≡ home image
+  pub home : v .home .0 ≡ home image
   pub ibsz : v .ibsz ≡ ibsz image
-  pub iblb : v .iblb ≡ iblb image
+  pub iblb : v .iblb .0 ≡ iblb image
   pub fmax : v .fmax ≡ fmax image

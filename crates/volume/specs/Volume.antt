@@ -38,7 +38,11 @@ inUse image n = leb 1 n && leb n (fmax image) && eqb (bitAt (indexMap image) (n 
 unfoldable pub indexHeader : List ℕ → List ℕ
 indexHeader image = block image (iblb image + ibsz image)
 
--- 01, Index file: "The slot of file n is VBN 2+m+n". Its LBN in a part of the index file that begins with VBN 1, given by its LBNs in order.
+-- 01, Index file: "The slot of file n is VBN 2+m+n".
+abbrev pub slotVbn : ℕ → ℕ → ℕ
+slotVbn m n = 2 + m + n
+
+-- The LBN of that slot in a part of the index file that begins with VBN 1, given by its LBNs in order: VBN 2+m+n is the one at place 1+m+n, from 0.
 abbrev pub partSlot : ℕ → List ℕ → ℕ → ℕ
 partSlot m part n = getD part (1 + m + n) 0
 
@@ -130,11 +134,11 @@ placesOf image = padded (places image)
 unfoldable pub volumeOf : List ℕ → Volume
 volumeOf image = record {
   blocks = blocks image;
-  home = home image;
+  home = record { 0 = home image };
   ibsz = ibsz image;
-  iblb = iblb image;
+  iblb = record { 0 = iblb image };
   fmax = fmax image;
-  base = base image;
+  base = record { 0 = base image };
   segments = length (places image);
 }
 

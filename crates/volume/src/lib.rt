@@ -1,6 +1,7 @@
 // An opened volume: its record, the blocks of its index file, the slots of file headers, and which file numbers are in use.
 use answer::types::FileNumber;
 use answer::types::Lbn;
+use answer::types::Vbn;
 use header::fields::h_fseq;
 use header::fields::m_efsq;
 use header::fields::segment;
@@ -12,20 +13,20 @@ use pointers::block_count;
 use pointers::place_of;
 use whole::fault;
 ghost use mathlib.Core.Path.{_≡_};
-ghost use Prim.Native.Nat.{_≤_};
+ghost use Prim.Native.Nat.{_+_, _-_, _≤_, _<_, _^_};
 ghost use lib.ListN.{length, take};
 ghost use mathlib.Core.Bool.{true};
 ghost use Rattle.header.specs.Fields.{mEfnu};
 ghost use Rattle.image.specs.Blocks.{block};
 ghost use Rattle.pointers.specs.Pointers.{placeIn};
 ghost use Rattle.home.specs.Home.{blocks};
-ghost use Rattle.volume.specs.Volume.{follows, index, ibsz, iblb, fmax, slot, hasSlot, slotOf, inUse, mapBlocks};
+ghost use Rattle.volume.specs.Volume.{follows, index, ibsz, iblb, fmax, slotVbn, slot, hasSlot, slotOf, inUse, mapBlocks};
 ghost use Rattle.pointers.specs.Pointers.{flat};
 ghost use Rattle.volume.specs.Opening.{FirstFit, Recorded, Mapped, Open};
 
 // Whether `next` is the header that header h links to by M.EFNU, which is n: its sequence, a segment number one higher, and whole.
-pub fn is_next(h: &[u8], next: &[u8], blocks: u32, n: u32) -> bool
-    requires { ⌜ (length (now next) ≡ 512) × (n ≡ mEfnu (now h)) ⌝ }
+pub fn is_next(h: &[u8], next: &[u8], blocks: u32, n: FileNumber) -> bool
+    requires { ⌜ (length (now next) ≡ 512) × (n .0 ≡ mEfnu (now h)) ⌝ }
     ensures { λ r. ⌜ r ≡ follows blocks (now (h .entry)) (now (next .entry)) ⌝ }
 {
     if h_fseq(next) != m_efsq(h) {
@@ -40,15 +41,24 @@ pub fn is_next(h: &[u8], next: &[u8], blocks: u32, n: u32) -> bool
     true
 }
 
-// Where a place, from 0, lies in the blocks of the first k of the headers at these LBNs.
-pub fn place_among(image: &[u8], at: &Places, k: usize, i: u32) -> Place
-    requires { ⌜ (length (now at) ≡ 256) × (k ≤ 256) × FirstFit (now image) (now at) k ⌝ }
-    ensures { λ r. ⌜ r ≡ placeIn (flat (block (now (image .entry))) (take k (now (at .entry)))) i ⌝ }
+// The VBN of the index file that is the slot of a file number.
+pub fn slot_vbn(m: u32, n: FileNumber) -> Vbn
+    requires { ⌜ 2 + m + n .0 < 2 ^ 32 ⌝ }
+    ensures { λ r. ⌜ r .0 ≡ slotVbn m (n .0) ⌝ }
 {
-    let mut left = i;
+    Vbn(2 + m + n.0)
+}
+
+// Where a VBN lies in the blocks of the first k of the headers at these LBNs.
+pub fn place_among(image: &[u8], at: &Places, k: usize, vbn: Vbn) -> Place
+    requires { ⌜ (length (now at) ≡ 256) × (k ≤ 256) × FirstFit (now image) (now at) k × (1 ≤ vbn .0) ⌝ }
+    ensures { λ r. ⌜ r ≡ placeIn (flat (block (now (image .entry))) (take k (now (at .entry)))) (vbn .0 - 1) ⌝ }
+{
+    let mut left = vbn.0 - 1;
     let mut j: usize = 0;
     while j < k {
-        let place = place_of(block(image, at[j]), left);
+        let lbn = Lbn(at[j]);
+        let place = place_of(block(image, lbn), left);
         match place {
             Place::At(l) => {
                 return Place::At(l);
@@ -71,7 +81,8 @@ pub fn index_blocks(image: &[u8], v: Volume, places: &Places) -> u32
     let mut sum: u32 = 0;
     let mut k: usize = 0;
     while k < count {
-        sum += block_count(block(image, places[k]));
+        let lbn = Lbn(places[k]);
+        sum += block_count(block(image, lbn));
         k += 1;
     }
     sum
@@ -85,16 +96,16 @@ pub type Places = [u32; 256];
 pub struct Volume {
     // N, the number of blocks.
     pub blocks: u32,
-    // The LBN of the home.
-    pub home: u32,
+    // Where the home lies.
+    pub home: Lbn,
     // H.IBSZ, which is m.
     pub ibsz: u32,
-    // H.IBLB, the LBN of the index map.
-    pub iblb: u32,
+    // H.IBLB, where the index map begins.
+    pub iblb: Lbn,
     // H.FMAX, the highest file number.
     pub fmax: u32,
-    // The LBN of the storage map's bits.
-    pub base: u32,
+    // Where the storage map's bits begin.
+    pub base: Lbn,
     // How many headers the index file has.
     pub segments: usize,
 }
@@ -113,8 +124,8 @@ pub fn map_blocks(blocks: u32) -> u32
 }
 
 // Whether a file number is in use, by H.FMAX, H.IBLB and H.IBSZ alone.
-pub fn is_marked(image: &[u8], most: u32, from: u32, m: u32, n: FileNumber) -> bool
-    requires { ⌜ (most ≡ fmax (now image)) × (from ≡ iblb (now image)) × (m ≡ ibsz (now image)) × Mapped (now image) ⌝ }
+pub fn is_marked(image: &[u8], most: u32, from: Lbn, m: u32, n: FileNumber) -> bool
+    requires { ⌜ (most ≡ fmax (now image)) × (from .0 ≡ iblb (now image)) × (m ≡ ibsz (now image)) × Mapped (now image) ⌝ }
     ensures { λ r. ⌜ r ≡ inUse (now (image .entry)) (n .0) ⌝ }
 {
     let number = n.0;
@@ -146,7 +157,7 @@ pub fn slot_of(image: &[u8], v: Volume, places: &Places, n: FileNumber) -> Slot
     if 8323072 < number {
         return Slot::Missing;
     }
-    let place = place_among(image, places, v.segments, 1 + v.ibsz + number);
+    let place = place_among(image, places, v.segments, slot_vbn(v.ibsz, n));
     match place {
         Place::At(l) => Slot::At(l),
         Place::Past(_) => Slot::Missing,

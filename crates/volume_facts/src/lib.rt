@@ -78,12 +78,12 @@ fn geometry_on(image: &[u8], v: Volume, places: &Places) -> Geometry
     let vlev = word_at(block(image, v.home), 12);
     Geometry {
         blocks: v.blocks,
-        home: v.home,
+        home: v.home.0,
         ibsz: v.ibsz,
-        iblb: v.iblb,
+        iblb: v.iblb.0,
         fmax: v.fmax,
         slots: mapped - (2 + v.ibsz),
-        map: v.base,
+        map: v.base.0,
         map_blocks: map_blocks(v.blocks),
         vlev,
         index_headers: v.segments as u32,

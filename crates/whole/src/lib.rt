@@ -1,4 +1,5 @@
 // Whether a header is whole: the first test that it does not meet.
+use answer::types::FileNumber;
 use header::fields::m_efnu;
 use header::fields::m_efsq;
 use image::numbers::wide;
@@ -26,7 +27,7 @@ fn pointers_end_inside(h: &[u8], blocks: u32) -> bool
     let number = pointer_number(h);
     let mut p: usize = 0;
     while p < number {
-        if blocks < pointer_lbn(h, at + 4 * p) + pointer_count(h, at + 4 * p) {
+        if blocks < pointer_lbn(h, at + 4 * p).0 + pointer_count(h, at + 4 * p) {
             return false;
         }
         p += 1;
@@ -82,9 +83,9 @@ fn link_fault(h: &[u8], blocks: u32) -> u8
 }
 
 // The first test, 1 to 12, that the header does not meet for file number n on a volume of so many blocks; 0 where it is whole.
-pub fn fault(h: &[u8], blocks: u32, n: u32) -> u8
+pub fn fault(h: &[u8], blocks: u32, n: FileNumber) -> u8
     requires { ⌜ length (now h) ≡ 512 ⌝ }
-    ensures { λ r. ⌜ r ≡ fault blocks n (now (h .entry)) ⌝ }
+    ensures { λ r. ⌜ r ≡ fault blocks (n .0) (now (h .entry)) ⌝ }
 {
     if checksum(h, 255) != word_at(h, 510) {
         return 1;
@@ -92,7 +93,7 @@ pub fn fault(h: &[u8], blocks: u32, n: u32) -> u8
     if word_at(h, 6) != 257 {
         return 2;
     }
-    if (word_at(h, 2) as u32) != n {
+    if (word_at(h, 2) as u32) != n.0 {
         return 3;
     }
     if h[0] < 23 {

@@ -31,7 +31,7 @@ unfolding positions
 is-home-requires c κs =
     let l = c .before .before .before in
     let a = l .before .before .args in
-    let p = c .before .position .result in
+    let p = c .before .position .result .0 in
     rw (c .block .ensures) (block-length (now (a .image)) p (omega (arith, c .before .position .ensures, position-below (a .n) (l .loop .i) (omega arith) (omega arith))))
 
 returns : tie.Need-returns Inv-loop μ-loop

@@ -12,12 +12,4 @@ returns c = (omega arith, omega arith)
 pub pointer-lbn-spec : {M : Type 1} → statement M
 pointer-lbn-spec =
     tie.close
-    (tie.spec
-    (search needs)
-    (search needs)
-    (search needs)
-    (search needs)
-    (search needs)
-    (search needs)
-    (search needs)
-    returns)
+    (tie.spec (search needs) (search needs) (search needs) (search needs) (search needs) (search needs) (search needs) returns)

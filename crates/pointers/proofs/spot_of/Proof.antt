@@ -29,13 +29,13 @@ loop-again c =
 
 returns : tie.Need-returns Inv-loop μ-loop
 returns c =
-    let q = c .before .before in
+    let q = c .before .before .before in
     let l = q .before .before in
     let b = l .before .before in
     let h = now (b .before .before .args .h) in
     let e = b .first-pointer .ensures .0 in
     let place = rw e at (l .loop .inv .1) in
-    let first = rw e at (c .pointer-lbn .ensures .0) in
+    let first = rw e at (c .before .pointer-lbn .ensures .0) in
     let size = rw e at (q .pointer-count .ensures .0) in
     rw place (in-pointer h (l .loop .p) (l .loop .left) _ _ (omega (arith, l .before .pointer-number .ensures .0)) (omega (arith, size)) (omega (arith, first)) (omega (arith, size)))
 

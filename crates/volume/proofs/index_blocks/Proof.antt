@@ -52,11 +52,11 @@ header-read c =
 loop-holds : tie.Need-loop-holds Inv-loop μ-loop
 loop-holds c = (omega (arith, room (c .before)), sym (ap length (mapped-none (now (c .before .args .image)))), omega arith)
 
-mul-block : tie.Need-mul-block Inv-loop μ-loop
-mul-block c = omega (arith, room (c .before .before .before))
+mul-sum : tie.Need-mul-sum Inv-loop μ-loop
+mul-sum c = omega (arith, room (c .before .before .before))
 
-element-copy-out-block : tie.Need-element-copy-out-block Inv-loop μ-loop
-element-copy-out-block c = omega (arith, room (c .before .before .before))
+element-copy-out-sum : tie.Need-element-copy-out-sum Inv-loop μ-loop
+element-copy-out-sum c = omega (arith, room (c .before .before .before))
 
 block-count-requires : tie.Need-block-count-requires Inv-loop μ-loop
 block-count-requires c κs =
@@ -93,4 +93,4 @@ returns c =
 pub index-blocks-spec : {M : Type 1} → statement M
 index-blocks-spec =
     tie.close
-    (tie.spec Inv-loop μ-loop loop-holds mul-block element-copy-out-block (search needs) block-count-requires add-sum (search needs) (search needs) loop-again returns)
+    (tie.spec Inv-loop μ-loop loop-holds mul-sum element-copy-out-sum (search needs) block-count-requires add-sum (search needs) (search needs) loop-again returns)

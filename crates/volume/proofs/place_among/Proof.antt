@@ -18,85 +18,64 @@ use Rattle.volume.proofs.place_among.Statement.{statement}
 use Rattle.volume.proofs.place_among.Tie as tie
 
 abbrev Inv-loop : tie.InvT-loop
-Inv-loop image at k i left₀ j₀ left j = (j ≤ k) × (placeIn (flat (block image) (take k at)) i ≡ placeIn (flat (block image) (drop j (take k at))) left)
+Inv-loop image at k left₀ j₀ left j = (j ≤ k) × (placeIn (flat (block image) (take k at)) left₀ ≡ placeIn (flat (block image) (drop j (take k at))) left)
 
 abbrev μ-loop : tie.MeasureT-loop
-μ-loop image at k i left₀ j₀ left j = k - j
+μ-loop image at k left₀ j₀ left j = k - j
 
 -- The header at hand is one of those that are asked for.
-inside : (c : tie.At-loop Inv-loop μ-loop) → c .loop .j < c .before .before .args .k → c .loop .j < length (take (c .before .before .args .k) (now (c .before .before .args .at)))
+inside : (c : tie.At-loop Inv-loop μ-loop) → c .loop .j < c .before .before .before .args .k → c .loop .j < length (take (c .before .before .before .args .k) (now (c .before .before .before .args .at)))
 inside c l =
-    let s = c .before .before in
+    let s = c .before .before .before in
     omega (arith, length-take-le (s .args .k) (now (s .args .at)) (omega (arith, s .pre)))
 
 header : (c : tie.After-block Inv-loop μ-loop)
     → let l = c .before .before .before in
-    let s = l .before .before in
+    let s = l .before .before .before in
     now (c .block .result) ≡ block (now (s .args .image)) (getD (take (s .args .k) (now (s .args .at))) (l .loop .j) 0)
 header c =
     let l = c .before .before .before in
-    let s = l .before .before in
+    let s = l .before .before .before in
     c .block .ensures ∙ ap (block (now (s .args .image))) (sym (getD-take (s .args .k) (now (s .args .at)) (l .loop .j) 0 (omega arith)))
 
 -- What is left of the place, by where it lies in the header at hand.
 placed : (c : tie.After-place-of Inv-loop μ-loop) (p : Place) → c .place-of .result ≡ p
     → let l = c .before .before .before .before in
-    let s = l .before .before in
+    let s = l .before .before .before in
     let ls = take (s .args .k) (now (s .args .at)) in
     Found (blocksOf (block (now (s .args .image)) (getD ls (l .loop .j) 0))) (flat (block (now (s .args .image))) (drop (l .loop .j + 1) ls)) (l .loop .left) p
 placed c p e =
     let b = c .before in
     let l = b .before .before .before in
-    let s = l .before .before in
+    let s = l .before .before .before in
     let ls = take (s .args .k) (now (s .args .at)) in
     found (blocksOf (block (now (s .args .image)) (getD ls (l .loop .j) 0))) (flat (block (now (s .args .image))) (drop (l .loop .j + 1) ls)) (l .loop .left) p
     (ap (λ (h : List ℕ). placeIn (blocksOf h) (l .loop .left)) (sym (header b)) ∙ sym (c .place-of .ensures) ∙ e)
 
 -- The blocks from the header at hand on.
-split : (c : tie.At-loop Inv-loop μ-loop) → c .loop .j < c .before .before .args .k
-    → let s = c .before .before in
+split : (c : tie.At-loop Inv-loop μ-loop) → c .loop .j < c .before .before .before .args .k
+    → let s = c .before .before .before in
     let ls = take (s .args .k) (now (s .args .at)) in
-    placeIn (flat (block (now (s .args .image))) ls) (s .args .i)
+    placeIn (flat (block (now (s .args .image))) ls) (s .args .vbn .0 - 1)
     ≡ placeIn (blocksOf (block (now (s .args .image)) (getD ls (c .loop .j) 0)) ++ flat (block (now (s .args .image))) (drop (c .loop .j + 1) ls)) (c .loop .left)
 split c l =
-    let s = c .before .before in
+    let s = c .before .before .before in
     let ls = take (s .args .k) (now (s .args .at)) in
     c .loop .inv .1 ∙ ap (λ (b : List ℕ). placeIn b (c .loop .left)) (mapped-drop (now (s .args .image)) ls (c .loop .j) (inside c l))
 
 loop-holds : tie.Need-loop-holds Inv-loop μ-loop
 loop-holds c = (search needs, refl)
 
-mul-block : tie.Need-mul-block Inv-loop μ-loop
-mul-block c = search needs
-
-element-copy-out-block : tie.Need-element-copy-out-block Inv-loop μ-loop
-element-copy-out-block c = search needs
-
-block-requires : tie.Need-block-requires Inv-loop μ-loop
-block-requires c κs = search needs
-
 place-of-requires : tie.Need-place-of-requires Inv-loop μ-loop
 place-of-requires c κs =
     let l = c .before .before .before in
-    rw (c .block .ensures) (l .before .before .pre .2 (l .loop .j) (omega arith))
-
-enum-known-place : tie.Need-enum-known-place Inv-loop μ-loop
-enum-known-place c = search needs
+    rw (c .block .ensures) (l .before .before .before .pre .2 (l .loop .j) (omega arith))
 
 returns : tie.Need-returns Inv-loop μ-loop
 returns c =
     let p = c .before .before .before in
     let l = p .before .before .before .before in
     sym (split l (omega arith) ∙ placed p (At (c .before .place .given .0 .0)) (c .before .place .given .1) .2)
-
-enum-known-place-2 : tie.Need-enum-known-place-2 Inv-loop μ-loop
-enum-known-place-2 c = search needs
-
-add-j : tie.Need-add-j Inv-loop μ-loop
-add-j c = search needs
-
-loop-less : tie.Need-loop-less Inv-loop μ-loop
-loop-less c = search needs
 
 loop-again : tie.Need-loop-again Inv-loop μ-loop
 loop-again c =
@@ -107,7 +86,7 @@ loop-again c =
 returns-2 : tie.Need-returns-2 Inv-loop μ-loop
 returns-2 c =
     let l = c .before in
-    let s = l .before .before in
+    let s = l .before .before .before in
     let ls = take (s .args .k) (now (s .args .at)) in
     sym (l .loop .inv .1
     ∙ ap (λ (b : List ℕ). placeIn b (l .loop .left)) (mapped-past (now (s .args .image)) ls (l .loop .j) (omega (arith, length-take (s .args .k) (now (s .args .at)))))
@@ -117,18 +96,4 @@ returns-2 c =
 pub place-among-spec : {M : Type 1} → statement M
 place-among-spec =
     tie.close
-    (tie.spec
-    Inv-loop
-    μ-loop
-    loop-holds
-    mul-block
-    element-copy-out-block
-    block-requires
-    place-of-requires
-    enum-known-place
-    returns
-    enum-known-place-2
-    add-j
-    loop-less
-    loop-again
-    returns-2)
+    (tie.spec Inv-loop μ-loop (search needs) loop-holds (search needs) (search needs) (search needs) place-of-requires (search needs) returns (search needs) (search needs) (search needs) loop-again returns-2)

@@ -9,7 +9,7 @@ use Rattle.volume.proofs.VolumeLaws.{opens, says, segments-least, segme
 use Rattle.volume.proofs.slot_of.Statement.{statement}
 use Rattle.volume.proofs.slot_of.Tie as tie
 
-room : (c : tie.Start) → c .args .v .iblb + c .args .v .ibsz + 16 ≤ 1044480
+room : (c : tie.Start) → c .args .v .iblb .0 + c .args .v .ibsz + 16 ≤ 1044480
 room c =
     let image = now (c .args .image) in
     let v = says image (c .args .v) (c .pre .1) in
@@ -21,11 +21,8 @@ returns c =
     let s = c .before .before in
     sym (slot-none (now (s .args .image)) (record { each = λ i. omega (arith, c .before .shared-slice-known .given i) }) (s .args .n .0) (omega arith))
 
-add-place-among : tie.Need-add-place-among
-add-place-among c = omega (arith, room (c .before .before .before))
-
-add-place-among-2 : tie.Need-add-place-among-2
-add-place-among-2 c = omega (arith, room (c .before .before .before))
+slot-vbn-requires : tie.Need-slot-vbn-requires
+slot-vbn-requires c κs = omega (arith, room (c .before .before))
 
 place-among-requires : tie.Need-place-among-requires
 place-among-requires c κs =
@@ -35,6 +32,7 @@ place-among-requires c κs =
       places-long image (s .args .v) at (s .pre),
       omega (arith, segments-most image (s .args .v) at (s .pre)),
       λ j l. places-fit image (s .args .v) at (s .pre) j (omega (arith, segments-least image (s .args .v) at (s .pre))),
+      omega (arith, c .slot-vbn .ensures),
     )
 
 -- Its place in the index file.
@@ -44,7 +42,7 @@ slot-read c =
     let s = c .before .before .before .before in
     let image = now (s .args .image) in
     rw (c .place-among .ensures, places-first image (s .args .v) (now (s .args .places)) (s .pre))
-    (slot-place image (opens image (s .pre .0)) (s .args .n .0) _ (omega (arith, says image (s .args .v) (s .pre .1) .ibsz)))
+    (slot-place image (opens image (s .pre .0)) (s .args .n .0) _ (omega (arith, c .before .slot-vbn .ensures, says image (s .args .v) (s .pre .1) .ibsz)))
 
 returns-2 : tie.Need-returns-2
 returns-2 c = ap slotIn (sym (c .before .place .given .1)) ∙ slot-read (c .before .before .before)
@@ -53,4 +51,4 @@ returns-3 : tie.Need-returns-3
 returns-3 c = ap slotIn (sym (c .enum-told .given .1)) ∙ slot-read (c .before .before)
 
 pub slot-of-spec : {M : Type 1} → statement M
-slot-of-spec = tie.close (tie.spec returns add-place-among add-place-among-2 place-among-requires (search needs) (search needs) returns-2 returns-3)
+slot-of-spec = tie.close (tie.spec returns slot-vbn-requires place-among-requires (search needs) (search needs) returns-2 returns-3)

@@ -21,9 +21,9 @@ level : (c : tie.Else2) → eqb (hFlev (now (c .before .before .before .before .
 unfolding hFlev
 level c = eq-eqb _ _ (sym (c .before .word-at2 .ensures) ∙ c .if2 .left)
 
-number : (c : tie.Else3) → eqb (hFnum (now (c .before .before .before .before .before .before .before .before .args .h))) (c .before .before .before .before .before .before .before .before .args .n) ≡ true
+number : (c : tie.Else3) → eqb (hFnum (now (c .before .before .before .before .before .before .before .before .before .args .h))) (c .before .before .before .before .before .before .before .before .before .args .n .0) ≡ true
 unfolding hFnum
-number c = eq-eqb _ _ (sym (c .before .word-at3 .ensures) ∙ c .if3 .left)
+number c = eq-eqb _ _ (sym (c .before .before .word-at3 .ensures) ∙ c .if3 .left)
 
 returns : tie.Need-returns
 unfolding fault tests firstUnmet
@@ -40,15 +40,15 @@ returns-2 c =
 returns-3 : tie.Need-returns-3
 unfolding fault tests firstUnmet hFnum
 returns-3 c =
-    let s = c .before in
+    let s = c .before .before in
     let e = s .before in
-    rw (sum (e .before .before), level e, ← s .word-at3 .ensures, ne-eqb (s .word-at3 .result) (e .before .before .before .before .before .before .args .n) (omega arith))
+    rw (sum (e .before .before), level e, ← s .word-at3 .ensures, ne-eqb (s .word-at3 .result) (e .before .before .before .before .before .before .args .n .0) (omega arith))
 
 returns-4 : tie.Need-returns-4
 unfolding fault tests firstUnmet hIdof
 returns-4 c =
     let s = c .before .before in
-    let e = s .before .before in
+    let e = s .before .before .before in
     rw (sum (e .before .before), level e, number s, lt-leb 23 (hIdof (now (e .before .before .before .before .before .before .args .h))) (omega arith))
 
 returns-5 : tie.Need-returns-5
@@ -56,7 +56,7 @@ unfolding fault tests firstUnmet hIdof hMpof
 returns-5 c =
     let f = c .before .before .before in
     let s = f .before .before in
-    let e = s .before .before in
+    let e = s .before .before .before in
     rw (sum (e .before .before), level e, number s, le-leb 23 (hIdof (now (e .before .before .before .before .before .before .args .h))) (omega arith), lt-leb _ _ (c .if5 .taken))
 
 returns-6 : tie.Need-returns-6
@@ -65,7 +65,7 @@ returns-6 c =
     let g = c .before in
     let f = g .before .before .before in
     let s = f .before .before in
-    let e = s .before .before in
+    let e = s .before .before .before in
     rw (sum (e .before .before), level e, number s, le-leb 23 (hIdof (now (e .before .before .before .before .before .before .args .h))) (omega arith), le-leb _ _ (g .if5 .left), c .map-fault .ensures)
 
 pub fault-spec : {M : Type 1} → statement M

@@ -25,29 +25,29 @@ loop-holds c = (search needs, below-none (endsInside (c .before .before .before 
 returns : tie.Need-returns Inv-loop μ-loop
 unfolding endsInside
 returns c =
-    let t = c .before .before in
+    let t = c .before .before .before in
     let l = t .before .before in
     let b = l .before .before in
     let a = b .before .before .args in
     let h = now (a .h) in
     let at = pointersAt h + 4 * l .loop .p in
     let e : b .first-pointer .result + 4 * l .loop .p ≡ at = ap (λ (x : ℕ). x + 4 * l .loop .p) (b .first-pointer .ensures .0) in
-    let lbn : t .pointer-lbn .result ≡ pointerLbn h at = t .pointer-lbn .ensures .0 ∙ ap (pointerLbn h) e in
-    let count : c .before .pointer-count .result ≡ pointerCount h at = c .before .pointer-count .ensures .0 ∙ ap (pointerCount h) e in
+    let lbn : t .pointer-lbn .result .0 ≡ pointerLbn h at = t .pointer-lbn .ensures .0 ∙ ap (pointerLbn h) e in
+    let count : c .before .before .pointer-count .result ≡ pointerCount h at = c .before .before .pointer-count .ensures .0 ∙ ap (pointerCount h) e in
     sym (below-fails (pointers h) (endsInside (a .blocks) h) (l .loop .p) (omega arith) (lt-leb (pointerLbn h at + pointerCount h at) (a .blocks) (omega arith)))
 
 loop-again : tie.Need-loop-again Inv-loop μ-loop
 unfolding endsInside
 loop-again c =
-    let t = c .before .before in
+    let t = c .before .before .before in
     let l = t .before .before in
     let b = l .before .before in
     let a = b .before .before .args in
     let h = now (a .h) in
     let at = pointersAt h + 4 * l .loop .p in
     let e : b .first-pointer .result + 4 * l .loop .p ≡ at = ap (λ (x : ℕ). x + 4 * l .loop .p) (b .first-pointer .ensures .0) in
-    let lbn : t .pointer-lbn .result ≡ pointerLbn h at = t .pointer-lbn .ensures .0 ∙ ap (pointerLbn h) e in
-    let count : c .before .pointer-count .result ≡ pointerCount h at = c .before .pointer-count .ensures .0 ∙ ap (pointerCount h) e in
+    let lbn : t .pointer-lbn .result .0 ≡ pointerLbn h at = t .pointer-lbn .ensures .0 ∙ ap (pointerLbn h) e in
+    let count : c .before .before .pointer-count .result ≡ pointerCount h at = c .before .before .pointer-count .ensures .0 ∙ ap (pointerCount h) e in
     (search needs, below-more (l .loop .p) (endsInside (a .blocks) h) (l .loop .inv .1) (le-leb (pointerLbn h at + pointerCount h at) (a .blocks) (omega arith)))
 
 returns-2 : tie.Need-returns-2 Inv-loop μ-loop

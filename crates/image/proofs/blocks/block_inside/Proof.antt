@@ -10,9 +10,9 @@ use Rattle.image.proofs.blocks.block_inside.Tie as tie
 returns : tie.Need-returns
 unfolding block
 returns c =
-    let k = c .before .args .k in
+    let k = c .before .before .args .lbn .0 in
     let e : 512 * k + 512 - 512 * k ≡ 512 = omega arith in
     rw e
 
 pub block-inside-spec : {M : Type 1} → statement M
-block-inside-spec = tie.close (tie.spec (search needs) (search needs) (search needs) (search needs) (search needs) returns)
+block-inside-spec = tie.close (tie.spec (search needs) (search needs) (search needs) (search needs) (search needs) (search needs) returns)
