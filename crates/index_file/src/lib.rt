@@ -38,7 +38,8 @@ fn walk(image: &[u8], v: Volume, places: &mut Places) -> usize
     ensures { λ r. ⌜ Walked (now (image .entry)) r (now (places .exit)) ⌝ }
 {
     let mut count: usize = 0;
-    let mut at = Lbn(v.iblb.0 + v.ibsz);
+    let first = v.iblb.0 + v.ibsz;
+    let mut at = Lbn(first);
     loop {
         places[count] = at.0;
         count += 1;

@@ -166,7 +166,8 @@ fn open_laid_out(image: &[u8], v: Volume, places: &mut Places) -> OpenVolume
     requires { ⌜ (sized (now image) ≡ true) × (homed (now image) ≡ true) × (geometry (now image) ≡ true) × Laid (now image) v × (now places ≡ zeros 256) ⌝ }
     ensures { λ r. ⌜ TellsVolume (now (image .entry)) r (now (places .exit)) ⌝ }
 {
-    let h1 = block(image, Lbn(v.iblb.0 + v.ibsz));
+    let first = v.iblb.0 + v.ibsz;
+    let h1 = block(image, Lbn(first));
     let indexed = is_indexed(h1, v.blocks, v.home, v.iblb, v.ibsz);
     if !indexed {
         return refused(Refusal::Index);
@@ -175,7 +176,8 @@ fn open_laid_out(image: &[u8], v: Volume, places: &mut Places) -> OpenVolume
     if segments == 0 {
         return refused(Refusal::Index);
     }
-    let h2 = block(image, Lbn(v.iblb.0 + v.ibsz + 1));
+    let second = first + 1;
+    let h2 = block(image, Lbn(second));
     let stored = is_stored(image, h2, v.blocks);
     if !stored {
         return refused(Refusal::Storage);
@@ -248,9 +250,11 @@ pub fn open_volume(image: &[u8]) -> Opened
 {
     let mut places = [0u32; 256];
     let o = open(image, &mut places);
+    let v = o.volume;
+    let home = v.home;
     let result = o.outcome;
     match result {
-        Outcome::Passed => Opened::Done(o.volume.home),
+        Outcome::Passed => Opened::Done(home),
         Outcome::Refused(r) => Opened::Refused(r),
     }
 }

@@ -267,7 +267,7 @@ opened-fmax image v o bytes =
     let e = says image v (o .1) .fmax in
     (e, omega (arith, e, fmax-below image bytes))
 
-module _ (image : List ℕ) (v : Volume) {at : List ℕ} (o : Recorded image v at) (map : List ℕ) (read : map ≡ region image (v .iblb) (v .ibsz)) where
+module _ (image : List ℕ) (v : Volume) {at : List ℕ} (o : Recorded image v at) (map : List ℕ) (read : map ≡ region image (v .iblb .0) (v .ibsz)) where
   map-read : map ≡ indexMap image
   unfolding indexMap
   map-read = let s = says image v (o .1) in read ∙ ap₂ (region image) (s .iblb) (s .ibsz)

@@ -62,7 +62,8 @@ pub fn slot_run(image: &[u8], v: Volume, n: FileNumber) -> SlotRun
     requires { ⌜ Open (now image) v × (n .0 ≤ 16) ⌝ }
     ensures { λ r. ⌜ Stands (now (image .entry)) (n .0) r ⌝ }
 {
-    let h = block(image, Lbn(v.iblb.0 + v.ibsz));
+    let first = v.iblb.0 + v.ibsz;
+    let h = block(image, Lbn(first));
     run_at(h, slot_vbn(v.ibsz, n))
 }
 
@@ -76,7 +77,8 @@ fn run_from(image: &[u8], v: Volume, places: &Places, n: FileNumber, k: usize, p
     let mut segment = k;
     let mut pointer = p;
     while segment < count {
-        let h = block_inside(image, Lbn(places[segment]));
+        let header = places[segment];
+        let h = block_inside(image, Lbn(header));
         if pointer < pointer_number(h) {
             let at = first_pointer(h) + 4 * pointer;
             return SlotRun {

@@ -91,5 +91,4 @@ loop-again c =
 pub lbn-at-spec : {M : Type 1} → statement M
 lbn-at-spec =
     tie.close
-    (tie.spec Inv-loop μ-loop (search needs) loop-holds block-count-requires lbn-in-requires returns (search needs) (search needs)
-    next-header-requires loop-less loop-again)
+    (tie.spec Inv-loop μ-loop (search needs) loop-holds block-count-requires lbn-in-requires returns (search needs) (search needs) next-header-requires loop-less loop-again)

@@ -36,11 +36,11 @@ efnu c =
     c .m-efnu .ensures ∙ ap mEfnu (c .before .block .ensures ∙ ap (block (now (l .before .before .args .image))) (l .loop .inv .lies))
 
 linked : (c : tie.Else1 Inv-loop μ-loop)
-    → let l = c .before .before .before in
+    → let l = c .before .before .before .before in
     Linked (now (l .before .before .args .image)) (header (now (l .before .before .args .image)) (l .loop .number))
 linked c =
-    let l = c .before .before .before in
-    gathers-linked _ _ _ _ _ _ _ (l .loop .inv) (bytes (l .before)) (λ z. c .if1 .left (omega (arith, efnu (c .before), z)))
+    let l = c .before .before .before .before in
+    gathers-linked _ _ _ _ _ _ _ (l .loop .inv) (bytes (l .before)) (λ z. c .if1 .left (omega (arith, efnu (c .before .before), z)))
 
 loop-holds : tie.Need-loop-holds Inv-loop μ-loop
 loop-holds c =
@@ -64,24 +64,23 @@ add-count c = omega (arith, room c)
 
 returns : tie.Need-returns Inv-loop μ-loop
 returns c =
-    let l = c .before .before .before in
-    gathers-end _ _ _ _ _ _ _ (l .loop .inv) (bytes (l .before)) (omega (arith, efnu (c .before), c .if1 .taken))
+    let l = c .before .before .before .before in
+    gathers-end _ _ _ _ _ _ _ (l .loop .inv) (bytes (l .before)) (omega (arith, efnu (c .before .before), c .if1 .taken))
 
 slot-at-requires : tie.Need-slot-at-requires Inv-loop μ-loop
-slot-at-requires c κs = (c .before .before .before .before .before .pre .0, rw (efnu (c .before)) (number-slot _ _ (linked c .number)))
+slot-at-requires c κs = (c .before .before .before .before .before .before .pre .0, rw (efnu (c .before .before)) (number-slot _ _ (linked c .number)))
 
 loop-less : tie.Need-loop-less Inv-loop μ-loop
-loop-less c = omega (arith, room (c .before .before .before .before))
+loop-less c = omega (arith, room (c .before .before .before .before .before))
 
 loop-again : tie.Need-loop-again Inv-loop μ-loop
 loop-again c =
-    let e = efnu (c .before .before) in
-    let l = c .before .before .before .before in
+    let e = efnu (c .before .before .before) in
+    let l = c .before .before .before .before .before in
     rw e
     (gathers-next _ _ _ _ _ _ _ (l .loop .inv) (bytes (l .before)) (λ z. c .before .if1 .left (omega (arith, e, z))) _ (c .slot-at .ensures ∙ ap (slot (now (l .before .before .args .image))) e))
 
 pub members-of-spec : {M : Type 1} → statement M
 members-of-spec =
     tie.close
-    (tie.spec Inv-loop μ-loop loop-holds mul-numbers array-write-numbers mul-slots array-write-slots add-count (search needs) (search needs)
-    (search needs) returns slot-at-requires loop-less loop-again)
+    (tie.spec Inv-loop μ-loop loop-holds mul-numbers array-write-numbers mul-slots array-write-slots add-count (search needs) (search needs) (search needs) returns slot-at-requires loop-less loop-again)

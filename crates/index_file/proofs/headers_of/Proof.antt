@@ -11,7 +11,7 @@ use Rattle.index_file.proofs.WalkLaws.{along-start, along-end}
 use Rattle.index_file.proofs.headers_of.Statement.{statement}
 use Rattle.index_file.proofs.headers_of.Tie as tie
 
-room : (c : tie.Start) → (c .args .v .iblb + c .args .v .ibsz + 16 ≤ c .args .v .blocks) × (c .args .v .blocks ≤ 1044480)
+room : (c : tie.Start) → (c .args .v .iblb .0 + c .args .v .ibsz + 16 ≤ c .args .v .blocks) × (c .args .v .blocks ≤ 1044480)
 room c = laid-room (now (c .args .image)) (c .args .v) (c .pre .3) (c .pre .1) (c .pre .2)
 
 add-places : tie.Need-add-places
@@ -25,8 +25,8 @@ returns c =
     let image = now (s .args .image) in
     let l = s .pre .3 in
     rw (s .pre .0)
-    (along-end image _ 0 (s .args .v .iblb + s .args .v .ibsz)
-    (along-start image (s .args .v .iblb + s .args .v .ibsz) (omega (arith, l .iblb, l .ibsz))
+    (along-end image _ 0 (s .args .v .iblb .0 + s .args .v .ibsz)
+    (along-start image (s .args .v .iblb .0 + s .args .v .ibsz) (omega (arith, l .iblb, l .ibsz))
     (record {
       number = 1;
       whole = rw (l .iblb, l .ibsz) (heads-gives (blocks image) 1 (indexHeader image) (s .pre .4) .whole);

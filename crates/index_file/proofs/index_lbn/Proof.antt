@@ -10,17 +10,17 @@ use Rattle.index_file.proofs.index_lbn.Tie as tie
 returns : tie.Need-returns
 returns c =
     let a = c .before .args in
-    omega (arith, indexLbn-boot (a .home) (a .iblb), ap (indexLbn (a .home) (a .iblb)) (c .if1 .taken))
+    omega (arith, indexLbn-boot (a .home .0) (a .iblb .0), ap (indexLbn (a .home .0) (a .iblb .0)) (c .if1 .taken))
 
 returns-2 : tie.Need-returns-2
 returns-2 c =
     let a = c .before .before .args in
-    omega (arith, indexLbn-home (a .home) (a .iblb), ap (indexLbn (a .home) (a .iblb)) (c .if2 .taken))
+    omega (arith, indexLbn-home (a .home .0) (a .iblb .0), ap (indexLbn (a .home .0) (a .iblb .0)) (c .if2 .taken))
 
 returns-3 : tie.Need-returns-3
 returns-3 c =
-    let a = c .before .before .args in
-    sym (indexLbn-row (a .home) (a .iblb) (a .i) (omega arith))
+    let a = c .before .before .before .args in
+    sym (indexLbn-row (a .home .0) (a .iblb .0) (a .i) (omega arith))
 
 pub index-lbn-spec : {M : Type 1} → statement M
 index-lbn-spec = tie.close (tie.spec returns returns-2 (search needs) (search needs) returns-3)

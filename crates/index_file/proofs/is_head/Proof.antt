@@ -12,14 +12,14 @@ returns : tie.Need-returns
 unfolding heads
 returns c =
     let a = c .before .before .before .args in
-    rw (ne-eqb (fault (a .blocks) (a .n) (now (a .h))) 0 (omega arith))
+    rw (ne-eqb (fault (a .blocks) (a .n .0) (now (a .h))) 0 (omega arith))
 
 returns-2 : tie.Need-returns-2
 unfolding heads
 returns-2 c =
-    let s = c .before in
+    let s = c .before .before in
     let a = s .before .before .before .before .args in
-    rw (eq-eqb (fault (a .blocks) (a .n) (now (a .h))) 0 (omega arith), ← s .h-fseq .ensures, ← c .segment .ensures)
+    rw (eq-eqb (fault (a .blocks) (a .n .0) (now (a .h))) 0 (omega arith), ← s .h-fseq .ensures, ← c .before .segment .ensures)
 
 pub is-head-spec : {M : Type 1} → statement M
 is-head-spec =

@@ -18,7 +18,7 @@ use Rattle.index_file.proofs.is_index_mapped.Statement.{statement}
 use Rattle.index_file.proofs.is_index_mapped.Tie as tie
 
 abbrev Inv-loop : tie.InvT-loop
-Inv-loop h home iblb m at number done₀ p₀ done p = (p ≤ number) × (done ≡ min (length (runs h at p)) (m + 18)) × (below done (indexAt home iblb (blocksOf h)) ≡ true)
+Inv-loop h home iblb m at number done₀ p₀ done p = (p ≤ number) × (done ≡ min (length (runs h at p)) (m + 18)) × (below done (indexAt (home .0) (iblb .0) (blocksOf h)) ≡ true)
 
 abbrev μ-loop : tie.MeasureT-loop
 μ-loop h home iblb m at number done₀ p₀ done p = number - p
@@ -39,7 +39,7 @@ all-runs c = ap₂ (runs (now (c .before .before .before .args .h))) (c .before 
 -- The blocks of the pointer that is read stand after those so far.
 row : (c : tie.After-least Inv-loop μ-loop) (i : ℕ) → i < c .least .result
     → getD (blocksOf (now (c .before .before .before .before .before .before .before .before .before .args .h))) (c .before .before .before .before .before .loop .done + i) 0
-    ≡ c .before .before .pointer-lbn .result + i
+    ≡ c .before .before .pointer-lbn .result .0 + i
 row c i s =
     let l = c .before .before .before .before .before in
     let n = l .before in
@@ -65,7 +65,7 @@ returns c =
     let at = n .before .first-pointer .result in
     let most : length (runs h at (l .loop .p)) ≤ length (blocksOf h) = rw (← all-runs n) (runs-le h at (l .loop .p) (n .pointer-number .result) (l .loop .inv .0)) in
     sym (eq-eqb (l .loop .done) (a .m + 18) (c .if1 .taken))
-    ∙ index-end (a .home) (a .iblb) (a .m) (blocksOf h) (l .loop .done) (enough _ _ _ _ (l .loop .inv .1) (c .if1 .taken) most) (l .loop .inv .2)
+    ∙ index-end (a .home .0) (a .iblb .0) (a .m) (blocksOf h) (l .loop .done) (enough _ _ _ _ (l .loop .inv .1) (c .if1 .taken) most) (l .loop .inv .2)
 
 returns-2 : tie.Need-returns-2 Inv-loop μ-loop
 unfolding indexMapped
@@ -75,7 +75,7 @@ returns-2 c =
     let l = t .before .before .before .before .before in
     let a = l .before .before .before .before .args in
     let h = now (a .h) in
-    rw (index-off (a .home) (a .iblb) (blocksOf h) (t .before .before .pointer-lbn .result) (l .loop .done) (t .least .result) (row t) (a .m + 18) (omega arith) (sym (r .is-index-run .ensures) ∙ not-true (r .is-index-run .result) (c .if2 .taken)), and-false)
+    rw (index-off (a .home .0) (a .iblb .0) (blocksOf h) (t .before .before .pointer-lbn .result .0) (l .loop .done) (t .least .result) (row t) (a .m + 18) (omega arith) (sym (r .is-index-run .ensures) ∙ not-true (r .is-index-run .result) (c .if2 .taken)), and-false)
 
 loop-again : tie.Need-loop-again Inv-loop μ-loop
 loop-again c =
@@ -88,7 +88,7 @@ loop-again c =
       search needs,
       further (length (runs h at (l .loop .p))) (t .before .pointer-count .result) (a .m + 18) (l .loop .done) (t .least .result) (l .loop .inv .1) (t .least .ensures)
           ∙ ap (λ (k : ℕ). min k (a .m + 18)) (omega (arith, runs-length h at (l .loop .p), t .before .pointer-count .ensures .0)),
-      index-more (a .home) (a .iblb) (blocksOf h) (t .before .before .pointer-lbn .result) (l .loop .done) (t .least .result) (row t) (l .loop .inv .2) (sym (r .is-index-run .ensures) ∙ not-false (r .is-index-run .result) (c .if2 .left)),
+      index-more (a .home .0) (a .iblb .0) (blocksOf h) (t .before .before .pointer-lbn .result .0) (l .loop .done) (t .least .result) (row t) (l .loop .inv .2) (sym (r .is-index-run .ensures) ∙ not-false (r .is-index-run .result) (c .if2 .left)),
     )
 
 returns-3 : tie.Need-returns-3 Inv-loop μ-loop
@@ -98,7 +98,7 @@ returns-3 c =
     let a = n .before .before .before .args in
     let h = now (a .h) in
     let e : length (blocksOf h) ≡ length (runs h (n .before .first-pointer .result) (l .loop .p)) = ap length (sym (all-runs n)) ∙ ap (λ (p : ℕ). length (runs h (n .before .first-pointer .result) p)) (omega arith) in
-    index-end (a .home) (a .iblb) (a .m) (blocksOf h) (l .loop .done) (omega arith) (l .loop .inv .2)
+    index-end (a .home .0) (a .iblb .0) (a .m) (blocksOf h) (l .loop .done) (omega arith) (l .loop .inv .2)
 
 pub is-index-mapped-spec : {M : Type 1} → statement M
 is-index-mapped-spec =

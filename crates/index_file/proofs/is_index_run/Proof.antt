@@ -14,7 +14,7 @@ use Rattle.index_file.proofs.is_index_run.Statement.{statement}
 use Rattle.index_file.proofs.is_index_run.Tie as tie
 
 abbrev Inv-loop : tie.InvT-loop
-Inv-loop lbn c home iblb k i₀ i = (i ≤ c) × (below i (λ i. eqb (lbn + i) (indexLbn home iblb (k + i))) ≡ true)
+Inv-loop lbn c home iblb k i₀ i = (i ≤ c) × (below i (λ i. eqb (lbn .0 + i) (indexLbn (home .0) (iblb .0) (k + i))) ≡ true)
 
 abbrev μ-loop : tie.MeasureT-loop
 μ-loop lbn c home iblb k i₀ i = c - i
@@ -24,23 +24,23 @@ loop-holds c = (search needs, below-none _)
 
 returns : tie.Need-returns Inv-loop μ-loop
 returns c =
-    let l = c .before .before .before in
+    let l = c .before .before .before .before .before in
     let a = l .before .args in
     let i = l .loop .i in
-    sym (below-fails (a .c) (λ i. eqb (a .lbn + i) (indexLbn (a .home) (a .iblb) (a .k + i))) i (omega arith) (ne-eqb (a .lbn + i) (indexLbn (a .home) (a .iblb) (a .k + i)) (omega arith)))
+    sym (below-fails (a .c) (λ i. eqb (a .lbn .0 + i) (indexLbn (a .home .0) (a .iblb .0) (a .k + i))) i (omega arith) (ne-eqb (a .lbn .0 + i) (indexLbn (a .home .0) (a .iblb .0) (a .k + i)) (omega arith)))
 
 returns-2 : tie.Need-returns-2 Inv-loop μ-loop
 returns-2 c =
-    let l = c .before .before .before .before in
+    let l = c .before .before .before .before .before .before in
     let a = l .before .args in
-    sym (run-rises (a .home) (a .iblb) (a .lbn) (a .k) (a .c) (l .loop .i) (omega arith) (omega arith) (l .loop .inv .1))
+    sym (run-rises (a .home .0) (a .iblb .0) (a .lbn .0) (a .k) (a .c) (l .loop .i) (omega arith) (omega arith) (l .loop .inv .1))
 
 loop-again : tie.Need-loop-again Inv-loop μ-loop
 loop-again c =
-    let l = c .before .before .before .before in
+    let l = c .before .before .before .before .before .before in
     let a = l .before .args in
     let i = l .loop .i in
-    (search needs, below-more i (λ i. eqb (a .lbn + i) (indexLbn (a .home) (a .iblb) (a .k + i))) (l .loop .inv .1) (eq-eqb (a .lbn + i) (indexLbn (a .home) (a .iblb) (a .k + i)) (omega arith)))
+    (search needs, below-more i (λ i. eqb (a .lbn .0 + i) (indexLbn (a .home .0) (a .iblb .0) (a .k + i))) (l .loop .inv .1) (eq-eqb (a .lbn .0 + i) (indexLbn (a .home .0) (a .iblb .0) (a .k + i)) (omega arith)))
 
 returns-3 : tie.Need-returns-3 Inv-loop μ-loop
 returns-3 c =

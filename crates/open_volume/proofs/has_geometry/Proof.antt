@@ -24,14 +24,14 @@ returns-2 c =
 returns-3 : tie.Need-returns-3
 unfolding mapBlocks
 returns-3 c =
-    let a = c .before .before .before .before .before .before .before .args in
+    let a = c .before .before .before .before .before .before .before .before .args in
     let b = now (a .b) in
     rw (lt-leb (hIblb b + hIbsz b + 16) (a .n) (omega arith), and-false)
 
 returns-4 : tie.Need-returns-4
 unfolding mapBlocks
 returns-4 c =
-    let a = c .before .before .before .before .before .before .before .args in
+    let a = c .before .before .before .before .before .before .before .before .args in
     let b = now (a .b) in
     rw (le-leb 16 (hFmax b) (omega arith), eq-eqb (hIbsz b) (mapBlocks (hFmax b)) (omega arith), le-leb (hIblb b + hIbsz b + 16) (a .n) (omega arith))
 

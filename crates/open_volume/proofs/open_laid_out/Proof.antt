@@ -22,7 +22,7 @@ use Rattle.open_volume.proofs.open_laid_out.Statement.{statement}
 use Rattle.open_volume.proofs.open_laid_out.Tie as tie
 
 -- The room that geometry leaves.
-room : (c : tie.Start) → (c .args .v .iblb + c .args .v .ibsz + 16 ≤ c .args .v .blocks) × (c .args .v .blocks ≤ 1044480)
+room : (c : tie.Start) → (c .args .v .iblb .0 + c .args .v .ibsz + 16 ≤ c .args .v .blocks) × (c .args .v .blocks ≤ 1044480)
 room c = laid-room (now (c .args .image)) (c .args .v) (c .pre .3) (c .pre .0) (c .pre .2)
 
 -- Header 1.
@@ -39,8 +39,8 @@ begun : (c : tie.Else1)
     begins (now (s .args .image)) (s .args .v) (s .pre .3) ≡ true
 begun c = sym (index-read (c .before)) ∙ not-false (c .before .is-indexed .result) (c .if1 .left)
 
-add-block : tie.Need-add-block
-add-block c = omega (arith, room (c .before .before))
+add-first : tie.Need-add-first
+add-first c = omega (arith, room (c .before .before))
 
 is-indexed-requires : tie.Need-is-indexed-requires
 is-indexed-requires c κs =
@@ -87,24 +87,24 @@ ended : (c : tie.Else2) → indexEnds (now (c .before .before .before .before .b
 ended c = not-false (indexEnds (now (c .before .before .before .before .before .before .before .before .args .image))) (sym (c .before .headers-of .ensures .0) ∙ ne-eqb (c .before .headers-of .result) 0 (c .if2 .left))
 
 -- Header 2.
-header2-read : (c : tie.After-block2) → now (c .block2 .result) ≡ header (now (c .before .before .before .before .before .before .before .before .before .before .args .image)) 2
+header2-read : (c : tie.After-block2) → now (c .block2 .result) ≡ header (now (c .before .before .before .before .before .before .before .before .before .args .image)) 2
 header2-read c =
-    let i = c .before .before in
+    let i = c .before in
     let s = i .before .before .before .before .before .before .before .before in
     c .block2 .ensures ∙ laid-header2 (now (s .args .image)) (s .args .v) (s .pre .3) (indexes i)
 
 header2-long : (c : tie.After-block2) → length (now (c .block2 .result)) ≡ 512
 header2-long c =
-    let s = c .before .before .before .before .before .before .before .before .before .before in
+    let s = c .before .before .before .before .before .before .before .before .before in
     rw (c .block2 .ensures) (laid-length (now (s .args .image)) (s .args .v) (s .pre .3) (s .pre .0) (s .pre .2) _ (omega arith))
 
-stored-read : (c : tie.After-is-stored) → c .is-stored .result ≡ stored (now (c .before .before .before .before .before .before .before .before .before .before .before .args .image))
+stored-read : (c : tie.After-is-stored) → c .is-stored .result ≡ stored (now (c .before .before .before .before .before .before .before .before .before .before .args .image))
 stored-read c =
     let h = c .before in
-    let s = h .before .before .before .before .before .before .before .before .before .before in
+    let s = h .before .before .before .before .before .before .before .before .before in
     rw (← laid-stored (now (s .args .image)) (s .args .v) (s .pre .3), ← header2-read h) (c .is-stored .ensures)
 
-stores : (c : tie.Else3) → stored (now (c .before .before .before .before .before .before .before .before .before .before .before .before .args .image)) ≡ true
+stores : (c : tie.Else3) → stored (now (c .before .before .before .before .before .before .before .before .before .before .before .args .image)) ≡ true
 stores c = sym (stored-read (c .before)) ∙ not-false (c .before .is-stored .result) (c .if3 .left)
 
 returns-2 : tie.Need-returns-2
@@ -115,19 +115,16 @@ returns-2 c =
     open-refused image refusal.Index (c .refused2 .result) _ (c .refused2 .ensures)
     (open-index image (s .pre .0) (s .pre .1) (s .pre .2) (not-true (indexed image) (sym (walked w) ∙ eq-eqb (w .headers-of .result) 0 (c .before .if2 .taken))))
 
-add-block-2 : tie.Need-add-block-2
-add-block-2 c = omega (arith, room (c .before .before .before .before .before .before .before .before .before))
-
-add-block-3 : tie.Need-add-block-3
-add-block-3 c = omega (arith, room (c .before .before .before .before .before .before .before .before .before))
+add-second : tie.Need-add-second
+add-second c = omega (arith, room (c .before .before .before .before .before .before .before .before))
 
 is-stored-requires : tie.Need-is-stored-requires
-is-stored-requires c κs = (header2-long c, room (c .before .before .before .before .before .before .before .before .before .before) .1)
+is-stored-requires c κs = (header2-long c, room (c .before .before .before .before .before .before .before .before .before) .1)
 
 returns-3 : tie.Need-returns-3
 returns-3 c =
     let t = c .before .before in
-    let i = t .before .before .before in
+    let i = t .before .before in
     let s = i .before .before .before .before .before .before .before .before in
     let image = now (s .args .image) in
     open-refused image refusal.Storage (c .refused3 .result) _ (c .refused3 .ensures)
@@ -135,17 +132,17 @@ returns-3 c =
 
 lbn-in-requires : tie.Need-lbn-in-requires
 lbn-in-requires c κs =
-    let h = c .before .before in
-    let image = now (h .before .before .before .before .before .before .before .before .before .before .args .image) in
+    let h = c .before .before .before .before in
+    let image = now (h .before .before .before .before .before .before .before .before .before .args .image) in
     let long = header2-long h in
-    rw (header2-read h) (whole-fits (blocks image) 2 (header image 2) (rw (← header2-read h) long) (stored-gives image (stores c) .0 .whole))
+    rw (header2-read h) (whole-fits (blocks image) 2 (header image 2) (rw (← header2-read h) long) (stored-gives image (stores (c .before .before)) .0 .whole))
 
 returns-4 : tie.Need-returns-4
 unfolding base placesOf
 returns-4 c =
-    let t = c .before in
+    let t = c .before .before .before in
     let h = t .before .before in
-    let i = h .before .before in
+    let i = h .before in
     let w = i .before in
     let s = w .before .before .before .before .before .before .before in
     let image = now (s .args .image) in
@@ -160,5 +157,4 @@ returns-4 c =
 pub open-laid-out-spec : {M : Type 1} → statement M
 open-laid-out-spec =
     tie.close
-    (tie.spec add-block (search needs) is-indexed-requires (search needs) returns headers-of-requires (search needs) returns-2 add-block-2 add-block-3 (search needs) is-stored-requires
-    (search needs) returns-3 lbn-in-requires returns-4)
+    (tie.spec add-first (search needs) is-indexed-requires (search needs) returns headers-of-requires (search needs) returns-2 add-second (search needs) is-stored-requires (search needs) returns-3 lbn-in-requires returns-4)

@@ -17,7 +17,7 @@ open-requires c κs = refl
 returns : tie.Need-returns
 unfolding volumeAnswer openedVolume
 returns c =
-    let o = c .before .before in
+    let o = c .before .before .before .before in
     let image = now (o .before .before .before .args .image) in
     let e = sym (o .«open» .ensures .0) ∙ c .enum-told .given .1 in
     rw (e, ← says image (o .«open» .result .volume) (o .«open» .ensures .1 e) .home)
@@ -25,7 +25,7 @@ returns c =
 returns-2 : tie.Need-returns-2
 unfolding volumeAnswer openedVolume
 returns-2 c =
-    let o = c .before .before .before in
+    let o = c .before .before .before .before .before in
     rw (sym (o .«open» .ensures .0) ∙ c .before .result .given .1)
 
 pub open-volume-spec : {M : Type 1} → statement M

@@ -57,11 +57,11 @@ fits c =
     let s = i .before .before .before in
     rw (header-read c) (headers-fit (opens (now (s .args .image)) (s .pre .0 .0)) _ (at-hand i .0))
 
-mul-block-inside : tie.Need-mul-block-inside Inv-loop μ-loop
-mul-block-inside c = omega (arith, room (c .before .before .before))
+mul-header : tie.Need-mul-header Inv-loop μ-loop
+mul-header c = omega (arith, room (c .before .before .before))
 
-element-copy-out-block-inside : tie.Need-element-copy-out-block-inside Inv-loop μ-loop
-element-copy-out-block-inside c = omega (arith, room (c .before .before .before))
+element-copy-out-header : tie.Need-element-copy-out-header Inv-loop μ-loop
+element-copy-out-header c = omega (arith, room (c .before .before .before))
 
 block-inside-requires : tie.Need-block-inside-requires Inv-loop μ-loop
 block-inside-requires c κs =
@@ -88,7 +88,7 @@ returns c =
     let h = now (b .block-inside .result) in
     let p = l .loop .pointer in
     begins-run image (opens image (s .pre .0 .0)) (s .args .n .0) (l .loop .segment) p (begun l) (at-hand i .0)
-    (rw (← header-read b) (omega arith)) _ _
+    (rw (← header-read b) (omega (arith, f .before .if1 .taken, f .before .before .pointer-number .ensures .0))) _ _
     (rw (← header-read b) (q .pointer-lbn .ensures .0 ∙ ap (λ (at : ℕ). pointerLbn h (at + 4 * p)) (f .first-pointer .ensures .0)))
     (rw (← header-read b) (c .pointer-count .ensures .0 ∙ ap (λ (at : ℕ). pointerCount h (at + 4 * p)) (f .first-pointer .ensures .0)))
 
@@ -109,4 +109,4 @@ returns-2 c =
     begins-none image (opens image (s .pre .0 .0)) (s .args .n .0) (l .loop .segment) (l .loop .pointer) (begun l) (omega (arith, room s))
 
 pub run-from-spec : {M : Type 1} → statement M
-run-from-spec = tie.close (tie.spec Inv-loop μ-loop (λ c n b. b) mul-block-inside element-copy-out-block-inside block-inside-requires (search needs) (search needs) (search needs) (search needs) pointer-lbn-requires pointer-count-requires returns (search needs) (search needs) loop-again returns-2)
+run-from-spec = tie.close (tie.spec Inv-loop μ-loop (λ c n b. b) mul-header element-copy-out-header block-inside-requires (search needs) (search needs) (search needs) (search needs) pointer-lbn-requires pointer-count-requires returns (search needs) (search needs) loop-again returns-2)

@@ -2,17 +2,17 @@
 use borrow.Author.Needs.{needs}
 use native.Mathlib.Omega.{arith}
 use mathlib.Core.Path.{_≡_, sym, ap, ap₂, _∙_}
-use Prim.Native.Nat.{_+_, _≤_}
+use Prim.Native.Nat.{_+_, _-_, _≤_}
 use denote.Ref.{now}
 use Rattle.image.specs.Blocks.{block}
-use Rattle.volume.specs.Volume.{indexHeader}
+use Rattle.volume.specs.Volume.{ibsz, indexHeader}
 use Rattle.volume.proofs.VolumeLaws.{opens, indexHeader-fits, says}
 use Rattle.slots.proofs.SlotLaws.{stands-first}
 use Rattle.slots.proofs.slot_run.Statement.{statement}
 use Rattle.slots.proofs.slot_run.Tie as tie
 
 -- Header 1 lies on the volume.
-room : (c : tie.Start) → c .args .v .iblb + c .args .v .ibsz + 16 ≤ 1044480
+room : (c : tie.Start) → c .args .v .iblb .0 + c .args .v .ibsz + 16 ≤ 1044480
 room c =
     let image = now (c .args .image) in
     let v = says image (c .args .v) (c .pre .0 .1) in
@@ -26,27 +26,27 @@ header-read c =
     let v = says (now (s .args .image)) (s .args .v) (s .pre .0 .1) in
     c .block .ensures ∙ ap (block (now (s .args .image))) (ap₂ _+_ (v .iblb) (v .ibsz))
 
-add-block : tie.Need-add-block
-add-block c = omega (arith, room (c .before .before))
+add-first : tie.Need-add-first
+add-first c = omega (arith, room (c .before .before))
 
-add-run-at : tie.Need-add-run-at
-add-run-at c = omega (arith, room (c .before .before .before .before))
-
-add-run-at-2 : tie.Need-add-run-at-2
-add-run-at-2 c = omega (arith, room (c .before .before .before .before .before), c .before .before .before .before .before .pre .1)
+slot-vbn-requires : tie.Need-slot-vbn-requires
+slot-vbn-requires c κs =
+    let s = c .before .before .before in
+    omega (arith, room s, s .pre .1)
 
 run-at-requires : tie.Need-run-at-requires
 run-at-requires c κs =
-    let s = c .before .before .before .before .before in
-    rw (header-read (c .before .before)) (indexHeader-fits (opens (now (s .args .image)) (s .pre .0 .0)))
+    let s = c .before .before .before .before in
+    (rw (header-read (c .before)) (indexHeader-fits (opens (now (s .args .image)) (s .pre .0 .0))), omega (arith, c .slot-vbn .ensures))
 
 returns : tie.Need-returns
 returns c =
-    let b = c .before .before .before in
+    let b = c .before .before in
     let s = b .before .before .before in
     let image = now (s .args .image) in
-    let found = rw (header-read b, says image (s .args .v) (s .pre .0 .1) .ibsz) at (c .run-at .ensures) in
+    let place : c .before .slot-vbn .result .0 - 1 ≡ 1 + ibsz image + s .args .n .0 = omega (arith, c .before .slot-vbn .ensures, says image (s .args .v) (s .pre .0 .1) .ibsz) in
+    let found = rw (header-read b, place) at (c .run-at .ensures) in
     stands-first image (opens image (s .pre .0 .0)) (s .args .n .0) (c .run-at .result) (s .pre .1) (found .0) (found .1)
 
 pub slot-run-spec : {M : Type 1} → statement M
-slot-run-spec = tie.close (tie.spec add-block (search needs) add-run-at add-run-at-2 run-at-requires returns)
+slot-run-spec = tie.close (tie.spec add-first (search needs) slot-vbn-requires run-at-requires returns)
