@@ -39,7 +39,8 @@ pub fn spare_number(image: &[u8], v: Volume, places: &Places) -> FileNumber
     let mut n: u32 = 6;
     while n <= v.fmax {
         if run.left == 0 {
-            return FileNumber(v.fmax + 1);
+            let past = v.fmax + 1;
+            return FileNumber(past);
         }
         let used = bit_at(map, (n - 1) as usize) == 1;
         if is_spare(image, FileNumber(n), used, run) {

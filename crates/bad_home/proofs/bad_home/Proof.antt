@@ -42,7 +42,7 @@ module _ (s : tie.Start) where
   total : s .args .v .blocks ≡ blocks image
   total = says image (s .args .v) (s .pre .0 .1) .blocks
 
-  index : s .args .v .home / 256 ≡ homeIndex image
+  index : s .args .v .home .0 / 256 ≡ homeIndex image
   index = ap (λ (k : ℕ). k / 256) (says image (s .args .v) (s .pre .0 .1) .home) ∙ home-index image
 
   once : (j : ℕ) → j < blocks image → count j (covered image) ≤ 1
@@ -71,7 +71,7 @@ module _ (c : tie.After-first-unmarked) where
   found : c .first-unmarked .result ≡ badHomeIndex (image start)
   found =
       c .first-unmarked .ensures
-      ∙ ap (λ (m : List ℕ). first (unmarked m) 0 (start .args .v .home / 256)) (raising .raise-chain .ensures ∙ to-both start)
+      ∙ ap (λ (m : List ℕ). first (unmarked m) 0 (start .args .v .home .0 / 256)) (raising .raise-chain .ensures ∙ to-both start)
       ∙ ap (first (unmarked (both start)) 0) (index start)
       ∙ unmarked-file (image start) (area start) (opened start) (once start) (mine start) (inside start)
 

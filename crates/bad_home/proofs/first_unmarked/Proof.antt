@@ -37,19 +37,19 @@ loop-holds c = (search needs, first-start (unmarked _) _)
 
 shared-slice-read-if1 : tie.Need-shared-slice-read-if1 Inv-loop μ-loop
 shared-slice-read-if1 c =
-    let l = c .before .before .before in
-    omega (arith, c .before .position .ensures, position-most (l .loop .i), l .before .before .pre .0)
+    let l = c .before .before .before .before in
+    omega (arith, c .before .before .position .ensures, position-most (l .loop .i), l .before .before .pre .0)
 
 returns : tie.Need-returns Inv-loop μ-loop
 returns c =
-    let d = c .before .before in
+    let d = c .before .before .before in
     let l = d .before .before in
     let a = l .before .before .args in
     sym (l .loop .inv .1 ∙ first-here (unmarked (now (a .area))) (l .loop .i) (a .count) (omega arith) (unmarked-is (now (a .area)) (l .loop .i) _ (d .position .ensures) (c .if1 .taken)))
 
 loop-again : tie.Need-loop-again Inv-loop μ-loop
 loop-again c =
-    let d = c .before .before in
+    let d = c .before .before .before in
     let l = d .before .before in
     let a = l .before .before .args in
     (search needs, l .loop .inv .1 ∙ first-on (unmarked (now (a .area))) (l .loop .i) (a .count) (omega arith) (marked-is (now (a .area)) (l .loop .i) _ (d .position .ensures) (c .if1 .left)))

@@ -15,7 +15,7 @@ use Rattle.chains.proofs.members_of.Statement.{statement}
 use Rattle.chains.proofs.members_of.Tie as tie
 
 abbrev Inv-loop : tie.InvT-loop
-Inv-loop image v places numbers₀ slots₀ number₀ at₀ count₀ numbers slots number at count = Gathers image number₀ numbers slots number at count
+Inv-loop image v places numbers₀ slots₀ number₀ at₀ count₀ numbers slots number at count = Gathers image (number₀ .0) numbers slots (number .0) (at .0) count
 
 abbrev μ-loop : tie.MeasureT-loop
 μ-loop image v places numbers₀ slots₀ number₀ at₀ count₀ numbers slots number at count = 256 - count
@@ -29,7 +29,7 @@ room c = gathers-room _ _ _ _ _ _ _ (c .loop .inv) (bytes (c .before))
 -- M.EFNU of the header at hand.
 efnu : (c : tie.After-m-efnu Inv-loop μ-loop)
     → let l = c .before .before in
-    c .m-efnu .result ≡ mEfnu (header (now (l .before .before .args .image)) (l .loop .number))
+    c .m-efnu .result ≡ mEfnu (header (now (l .before .before .args .image)) (l .loop .number .0))
 unfolding header
 efnu c =
     let l = c .before .before in
@@ -37,7 +37,7 @@ efnu c =
 
 linked : (c : tie.Else1 Inv-loop μ-loop)
     → let l = c .before .before .before .before in
-    Linked (now (l .before .before .args .image)) (header (now (l .before .before .args .image)) (l .loop .number))
+    Linked (now (l .before .before .args .image)) (header (now (l .before .before .args .image)) (l .loop .number .0))
 linked c =
     let l = c .before .before .before .before in
     gathers-linked _ _ _ _ _ _ _ (l .loop .inv) (bytes (l .before)) (λ z. c .if1 .left (omega (arith, efnu (c .before .before), z)))

@@ -34,25 +34,25 @@ module _ (c : tie.After-pointer-count Inv-loop μ-loop) where
   place : l .before .before .first-pointer .result + 4 * l .loop .p ≡ at
   place = ap (λ (x : ℕ). x + 4 * l .loop .p) (l .before .before .first-pointer .ensures .0)
 
-  lbn : c .before .pointer-lbn .result ≡ pointerLbn h at
+  lbn : c .before .pointer-lbn .result .0 ≡ pointerLbn h at
   lbn = c .before .pointer-lbn .ensures .0 ∙ ap (pointerLbn h) place
 
   blocks : c .pointer-count .result ≡ pointerCount h at
   blocks = c .pointer-count .ensures .0 ∙ ap (pointerCount h) place
 
-  inside : c .before .pointer-lbn .result + c .pointer-count .result ≤ length (now (l .before .before .before .before .before .args .area))
+  inside : c .before .pointer-lbn .result .0 + c .pointer-count .result ≤ length (now (l .before .before .before .before .before .args .area))
   inside = omega (arith, lbn, blocks, l .before .before .before .before .before .pre .1 .each (l .loop .p) (omega arith))
 
 loop-holds : tie.Need-loop-holds Inv-loop μ-loop
 loop-holds c = (search needs, refl, sym (ap (raisedBy _) (runs-none _ _) ∙ raisedBy-none _))
 
 raise-run-requires : tie.Need-raise-run-requires Inv-loop μ-loop
-raise-run-requires c κs = (omega (arith, inside (c .before), c .before .before .before .before .loop .inv .1), omega arith)
+raise-run-requires c κs = (omega (arith, inside (c .before .before), c .before .before .before .before .before .loop .inv .1), omega arith)
 
 loop-again : tie.Need-loop-again Inv-loop μ-loop
 unfolding run
 loop-again c =
-    let d = c .before .before .before .before in
+    let d = c .before .before .before .before .before in
     let l = d .before .before .before in
     let area = now (l .before .before .before .before .before .args .area) in
     let from = l .before .before .first-pointer .result in

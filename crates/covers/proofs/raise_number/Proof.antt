@@ -21,16 +21,16 @@ module _ (c : tie.After-block) where
   abbrev image : List ℕ
   image = now (s .args .image)
 
-  used : inUse image (s .args .n) ≡ true
+  used : inUse image (s .args .n .0) ≡ true
   used = sym (s .pre .3) ∙ c .before .if1 .taken
 
-  is : now (c .block .result) ≡ header image (s .args .n)
-  is = c .block .ensures ∙ stands-read image (s .args .n) (s .args .run) (s .pre .4) (passes image (s .pre .0) (s .pre .1) .slotted (s .args .n) used)
+  is : now (c .block .result) ≡ header image (s .args .n .0)
+  is = c .block .ensures ∙ stands-read image (s .args .n .0) (s .args .run) (s .pre .4) (passes image (s .pre .0) (s .pre .1) .slotted (s .args .n .0) used)
 
 raise-header-requires : tie.Need-raise-header-requires
 raise-header-requires c κs =
     let b = c .before in
-    (rw (is b) (used-fits (image b) (s b .pre .0) (s b .pre .1) (s b .args .n) (used b)), rw (is b) (used-ends (image b) (s b .pre .0) (s b .pre .1) (s b .args .n) _ (used b) (s b .pre .2)))
+    (rw (is b) (used-fits (image b) (s b .pre .0) (s b .pre .1) (s b .args .n .0) (used b)), rw (is b) (used-ends (image b) (s b .pre .0) (s b .pre .1) (s b .args .n .0) _ (used b) (s b .pre .2)))
 
 returns : tie.Need-returns
 returns c =

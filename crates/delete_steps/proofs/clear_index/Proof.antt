@@ -20,7 +20,7 @@ abbrev μ-loop : tie.MeasureT-loop
 loop-holds : tie.Need-loop-holds Inv-loop μ-loop
 loop-holds c =
     let a = c .before .args in
-    (search needs, refl, sym (rw (indexBits-none (a .t4)) (put-none (now (a .image)) (a .k) (a .q) (c .before .pre .0) 0)))
+    (search needs, refl, sym (rw (indexBits-none (a .t4)) (put-none (now (a .image)) (a .map .0) (a .q) (c .before .pre .0) 0)))
 
 sub-put-map-bit : tie.Need-sub-put-map-bit Inv-loop μ-loop
 sub-put-map-bit c =
@@ -41,7 +41,7 @@ loop-again c =
     let more = indexBits-more (s .args .t4) (l .loop .i) (omega (arith, s .pre .2 .long)) in (
       search needs,
       b .kept .0 ∙ l .loop .inv .1,
-      put-more (now (s .args .image)) (s .args .k) (s .args .q) (s .pre .0) _ _ _ 0 _ _ (l .loop .inv .2) (b .ensures) more,
+      put-more (now (s .args .image)) (s .args .map .0) (s .args .q) (s .pre .0) _ _ _ 0 _ _ (l .loop .inv .2) (b .ensures) more,
     )
 
 returns : tie.Need-returns Inv-loop μ-loop

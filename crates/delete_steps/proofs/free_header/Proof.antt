@@ -29,7 +29,7 @@ module _ (c : tie.At-loop Inv-loop μ-loop) where
   image = now (start .args .image)
 
   abbrev h : List ℕ
-  h = block image (start .args .lbn)
+  h = block image (start .args .lbn .0)
 
   abbrev first : ℕ
   first = c .before .before .first-pointer .result
@@ -40,14 +40,14 @@ module _ (c : tie.At-loop Inv-loop μ-loop) where
   number : c .before .pointer-number .result ≡ pointers h
   number = c .before .pointer-number .ensures .0 ∙ ap pointers (c .before .before .before .block .ensures)
 
-  same : block (c .loop .image) (start .args .lbn) ≡ h
-  same = put-outside image (start .args .k) (start .args .q) (start .pre .0) _ 1 _ (c .loop .inv .2) (start .args .lbn) (start .pre .1 .outside)
+  same : block (c .loop .image) (start .args .lbn .0) ≡ h
+  same = put-outside image (start .args .map .0) (start .args .q) (start .pre .0) _ 1 _ (c .loop .inv .2) (start .args .lbn .0) (start .pre .1 .outside)
 
 loop-holds : tie.Need-loop-holds Inv-loop μ-loop
 loop-holds c =
     let s = c .before .before .before .before .before in
     let a = s .args in
-    (search needs, refl, sym (rw (runs-none (block (now (a .image)) (a .lbn)) (c .before .first-pointer .result)) (put-none (now (a .image)) (a .k) (a .q) (s .pre .0) 1)))
+    (search needs, refl, sym (rw (runs-none (block (now (a .image)) (a .lbn .0)) (c .before .first-pointer .result)) (put-none (now (a .image)) (a .map .0) (a .q) (s .pre .0) 1)))
 
 free-pointer-requires : tie.Need-free-pointer-requires Inv-loop μ-loop
 free-pointer-requires c κs =
@@ -65,7 +65,7 @@ loop-again c =
     let more = ap (λ (x : List ℕ). runs (h l) (first l) (l .loop .p) ++ run x (first l + 4 * l .loop .p)) (same l) ∙ sym (runs-more (h l) (first l) (l .loop .p)) in (
       search needs,
       b .kept .0 ∙ l .loop .inv .1,
-      put-more (image l) (a .k) (a .q) (start l .pre .0) _ _ _ 1 _ _ (l .loop .inv .2) (b .ensures) more,
+      put-more (image l) (a .map .0) (a .q) (start l .pre .0) _ _ _ 1 _ _ (l .loop .inv .2) (b .ensures) more,
     )
 
 returns : tie.Need-returns Inv-loop μ-loop
@@ -74,7 +74,7 @@ returns c =
     let l = c .before in
     let a = start l .args in
     let e : l .loop .p ≡ pointers (h l) = omega (arith, number l) in
-    l .loop .inv .2 ∙ ap (λ (js : List ℕ). putMapBits (image l) (a .k) (a .q) js 1) (ap₂ (runs (h l)) (at l) e)
+    l .loop .inv .2 ∙ ap (λ (js : List ℕ). putMapBits (image l) (a .map .0) (a .q) js 1) (ap₂ (runs (h l)) (at l) e)
 
 pub free-header-spec : {M : Type 1} → statement M
 free-header-spec =

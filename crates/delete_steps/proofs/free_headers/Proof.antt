@@ -23,7 +23,7 @@ abbrev μ-loop : tie.MeasureT-loop
 loop-holds : tie.Need-loop-holds Inv-loop μ-loop
 loop-holds c =
     let a = c .before .args in
-    (search needs, refl, sym (rw (flat-none (block (now (a .image))) (a .t4)) (put-none (now (a .image)) (a .k) (a .q) (c .before .pre .0) 1)))
+    (search needs, refl, sym (rw (flat-none (block (now (a .image))) (a .t4)) (put-none (now (a .image)) (a .map .0) (a .q) (c .before .pre .0) 1)))
 
 -- The slot at hand, and its header as it was.
 module _ (c : tie.At-loop Inv-loop μ-loop) where
@@ -36,15 +36,15 @@ module _ (c : tie.At-loop Inv-loop μ-loop) where
   abbrev lbn : ℕ
   lbn = getD (start .args .t4) (c .loop .i) 0
 
-  same : (out : start .args .k ≤ lbn → lbn < start .args .k + start .args .q → ⊥) → block (c .loop .image) lbn ≡ block image lbn
-  same out = put-outside image (start .args .k) (start .args .q) (start .pre .0) _ 1 _ (c .loop .inv .2) lbn out
+  same : (out : start .args .map .0 ≤ lbn → lbn < start .args .map .0 + start .args .q → ⊥) → block (c .loop .image) lbn ≡ block image lbn
+  same out = put-outside image (start .args .map .0) (start .args .q) (start .pre .0) _ 1 _ (c .loop .inv .2) lbn out
 
 free-header-requires : tie.Need-free-header-requires Inv-loop μ-loop
 free-header-requires c κs =
     let l = c .before .before in
     let p = start l .pre in
     let f = p .2 .each (l .loop .i) (omega arith) in
-    (omega (arith, p .0, l .loop .inv .1), freeable-same (image l) (l .loop .image) (start l .args .k) (start l .args .q) (lbn l) (same l (f .outside)) f)
+    (omega (arith, p .0, l .loop .inv .1), freeable-same (image l) (l .loop .image) (start l .args .map .0) (start l .args .q) (lbn l) (same l (f .outside)) f)
 
 loop-again : tie.Need-loop-again Inv-loop μ-loop
 loop-again c =
@@ -56,7 +56,7 @@ loop-again c =
     let more = ap (λ (x : List ℕ). flat (block (image l)) (take (l .loop .i) (a .t4)) ++ blocksOf x) (same l (f .outside)) ∙ flat-more (block (image l)) (a .t4) (l .loop .i) (omega (arith, p .2 .long)) in (
       search needs,
       b .kept .0 ∙ l .loop .inv .1,
-      put-more (image l) (a .k) (a .q) (p .0) _ _ _ 1 _ _ (l .loop .inv .2) (b .ensures) more,
+      put-more (image l) (a .map .0) (a .q) (p .0) _ _ _ 1 _ _ (l .loop .inv .2) (b .ensures) more,
     )
 
 returns : tie.Need-returns Inv-loop μ-loop

@@ -15,13 +15,13 @@ use Rattle.directory.proofs.search_run.Tie as tie
 returns : tie.Need-returns
 returns c =
     let a = c .before .before .before .args in
-    let none = search-none (now (a .image)) (numbersFrom (a .lbn) (a .count)) (a .w) (a .from) (a .to) (omega (arith, numbersFrom-length (a .lbn) (a .count))) in
+    let none = search-none (now (a .image)) (numbersFrom (a .lbn .0) (a .count)) (a .w) (a .from) (a .to) (omega (arith, numbersFrom-length (a .lbn .0) (a .count))) in
     search-range _ _ _ _ _ (omega arith) _ (sym none)
 
 first-in-requires : tie.Need-first-in-requires
 first-in-requires c κs =
     let a = c .before .before .before .before .args in
-    let long : length (now (c .region .result)) ≡ 512 * a .count = rw (c .region .ensures) (region-length (now (a .image)) (a .lbn) (a .count) (omega arith)) in
+    let long : length (now (c .region .result)) ≡ 512 * a .count = rw (c .region .ensures) (region-length (now (a .image)) (a .lbn .0) (a .count) (omega arith)) in
     (search needs, omega (arith, long))
 
 returns-2 : tie.Need-returns-2
@@ -30,7 +30,7 @@ returns-2 c =
     let a = r .before .before .before .before .args in
     let e : r .before .before .least .result ≡ min (a .to) (32 * a .count) = omega arith in
     search-range _ _ _ _ _ (omega arith) _
-    (rw (search-run (now (a .image)) (a .lbn) (a .count) (a .w) (a .from) (a .to), ← r .region .ensures, ← e) (c .first-in .ensures))
+    (rw (search-run (now (a .image)) (a .lbn .0) (a .count) (a .w) (a .from) (a .to), ← r .region .ensures, ← e) (c .first-in .ensures))
 
 pub search-run-spec : {M : Type 1} → statement M
 search-run-spec =

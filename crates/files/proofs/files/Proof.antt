@@ -28,22 +28,22 @@ first-bad-file-requires c κs = c .before .pre
 returns : tie.Need-returns
 unfolding files filesPlace
 returns c =
-    let f = c .before .before in
+    let f = c .before .before .before .before in
     let s = f .before .before in
     let image = now (s .args .image) in
-    let e : f .first-bad-file .result .place ≡ first (badFile image) 1 (fmax image) = f .first-bad-file .ensures .0 in
+    let e : f .first-bad-file .result .place .0 ≡ first (badFile image) 1 (fmax image) = f .first-bad-file .ensures .0 in
     (sym (search-none (badFile image) 1 (fmax image) _ (omega (arith, e, says image (s .args .v) (s .pre .1) .fmax))), single f)
 
 unmet-of-requires : tie.Need-unmet-of-requires
-unmet-of-requires c κs = c .before .before .before .before .pre
+unmet-of-requires c κs = c .before .before .before .before .before .before .pre
 
 returns-2 : tie.Need-returns-2
 unfolding files filesPlace
 returns-2 c =
-    let f = c .before .before .before in
+    let f = c .before .before .before .before .before in
     let s = f .before .before in
     let image = now (s .args .image) in
-    let e : f .first-bad-file .result .place ≡ first (badFile image) 1 (fmax image) = f .first-bad-file .ensures .0 in
+    let e : f .first-bad-file .result .place .0 ≡ first (badFile image) 1 (fmax image) = f .first-bad-file .ensures .0 in
     (rw (c .unmet-of .ensures, e) (sym (search-refused (badFile image) 1 (fmax image) _ (omega (arith, e, says image (s .args .v) (s .pre .1) .fmax)))), single f)
 
 pub files-spec : {M : Type 1} → statement M

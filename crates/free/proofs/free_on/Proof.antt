@@ -44,9 +44,9 @@ module _ (c : tie.After-region) where
   searched : (b from : ℕ) → nextBit (now (c .region .result)) (start .args .v .blocks) b from ≡ nextBit (storageMap image) (blocks image) b from
   searched b from = ap₂ (λ (m : List ℕ) (n : ℕ). nextBit m n b from) map (laid .blocks)
 
-found : (c : tie.After-next-bit) → c .next-bit .result ≡ nextFree (image (c .before)) (start (c .before) .args .from)
+found : (c : tie.After-next-bit) → c .next-bit .result ≡ nextFree (image (c .before)) (start (c .before) .args .from .0)
 unfolding nextFree
-found c = c .next-bit .ensures ∙ searched (c .before) 1 (start (c .before) .args .from)
+found c = c .next-bit .ensures ∙ searched (c .before) 1 (start (c .before) .args .from .0)
 
 next-bit-requires : tie.Need-next-bit-requires
 next-bit-requires c κs = bits c
@@ -55,7 +55,7 @@ returns : tie.Need-returns
 returns c =
     let f = c .before .before in
     let r = f .before in
-    run-absent (image r) (start r .args .from) (start r .pre .0) _ (found f) (omega (arith, laid r .blocks))
+    run-absent (image r) (start r .args .from .0) (start r .pre .0) _ (found f) (omega (arith, laid r .blocks))
 
 next-bit-requires-2 : tie.Need-next-bit-requires-2
 next-bit-requires-2 c κs = bits (c .before .before .before)
@@ -71,7 +71,7 @@ unfolding nextTaken
 returns-2 c =
     let f = c .before .before .before in
     let r = f .before in
-    run-done (image r) (start r .args .from) (start r .pre .0) _ _ (found f) (c .next-bit2 .ensures ∙ searched r 0 _) (omega (arith, laid r .blocks))
+    run-done (image r) (start r .args .from .0) (start r .pre .0) _ _ (found f) (c .next-bit2 .ensures ∙ searched r 0 _) (omega (arith, laid r .blocks))
 
 pub free-on-spec : {M : Type 1} → statement M
 free-on-spec =

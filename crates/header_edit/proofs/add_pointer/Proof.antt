@@ -22,8 +22,8 @@ unfolding nextPointer
 put-use-requires c κs =
     let p = c .before .before .before in
     let a = p .before .before .before .before .before .before .before .before .before .args in
-    let e : p .put-pointer .last .0 ≡ putPointer (now (a .h)) (nextPointer (now (a .h))) (a .s) (a .c) = cc in
-    omega (arith, ap mapArea e, use-inside (now (a .h)) (omega arith) (omega arith) (a .s) (a .c))
+    let e : p .put-pointer .last .0 ≡ putPointer (now (a .h)) (nextPointer (now (a .h))) (a .lbn .0) (a .c) = cc in
+    omega (arith, ap mapArea e, use-inside (now (a .h)) (omega arith) (omega arith) (a .lbn .0) (a .c))
 
 returns : tie.Need-returns
 unfolding extendedHeader nextPointer
@@ -37,7 +37,7 @@ returns c =
     let a = f .before .before .before .args in
     let next : f .first-pointer .result + 4 * n .pointer-number .result ≡ nextPointer (now (a .h)) = omega (arith, f .first-pointer .ensures .0, n .pointer-number .ensures .0) in
     e .seal .ensures
-    ∙ ap sealed (u .put-use .ensures ∙ ap₂ putUse (p .put-pointer .ensures ∙ ap (λ (at : ℕ). putPointer (now (a .h)) at (a .s) (a .c)) next) (ap (λ (w : ℕ). w + 2) (m .m-use .ensures)))
+    ∙ ap sealed (u .put-use .ensures ∙ ap₂ putUse (p .put-pointer .ensures ∙ ap (λ (at : ℕ). putPointer (now (a .h)) at (a .lbn .0) (a .c)) next) (ap (λ (w : ℕ). w + 2) (m .m-use .ensures)))
 
 pub add-pointer-spec : {M : Type 1} → statement M
 add-pointer-spec =

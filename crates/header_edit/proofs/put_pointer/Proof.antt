@@ -19,7 +19,7 @@ same-length : tie.Need-same-length
 unfolding putPointer
 same-length c =
     let a = c .before .before .before .before .before .args in
-    ap length (c .before .before .put-word .ensures) ∙ pointer-agree (now (a .h)) (a .at) (a .s) (a .c) .len
+    ap length (c .before .before .put-word .ensures) ∙ pointer-agree (now (a .h)) (a .at) (a .lbn .0) (a .c) .len
 
 returns : tie.Need-returns
 unfolding putPointer

@@ -47,21 +47,21 @@ first-bad-link-requires c κs =
 returns-2 : tie.Need-returns-2
 unfolding links linksPlace
 returns-2 c =
-    let f = c .before .before in
+    let f = c .before .before .before in
     let d = f .before .before .before .before in
     let s = d .before .before .before .before .before in
     let image = now (s .args .image) in
-    let e : f .first-bad-link .result ≡ first (badLinks image (linked image)) 1 (fmax image) = f .first-bad-link .ensures in
+    let e : f .first-bad-link .result .0 ≡ first (badLinks image (linked image)) 1 (fmax image) = f .first-bad-link .ensures in
     (sym (search-none (badLinks image (linked image)) 1 (fmax image) _ (omega (arith, e, says image (s .args .v) (s .pre .0 .1) .fmax))), d .count-links .ensures)
 
 returns-3 : tie.Need-returns-3
 unfolding links linksPlace
 returns-3 c =
-    let f = c .before .before in
+    let f = c .before .before .before in
     let d = f .before .before .before .before in
     let s = d .before .before .before .before .before in
     let image = now (s .args .image) in
-    let e : f .first-bad-link .result ≡ first (badLinks image (linked image)) 1 (fmax image) = f .first-bad-link .ensures in
+    let e : f .first-bad-link .result .0 ≡ first (badLinks image (linked image)) 1 (fmax image) = f .first-bad-link .ensures in
     (rw e (sym (search-refused (badLinks image (linked image)) 1 (fmax image) _ (omega (arith, e, says image (s .args .v) (s .pre .0 .1) .fmax)))), d .count-links .ensures)
 
 pub links-spec : {M : Type 1} → statement M

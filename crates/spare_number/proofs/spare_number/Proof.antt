@@ -37,8 +37,8 @@ loop-holds c =
     let image = now (k .before .args .image) in
     (omega arith, omega (arith, most k, opens image (k .before .pre .0) .enough), c .slot-run .ensures, ap (first (isSpare image) 6) (omega (arith, most k)))
 
-add-result : tie.Need-add-result Inv-loop μ-loop
-add-result c = omega (arith, most (c .before .before .before .before .before .before .before .before))
+add-past : tie.Need-add-past Inv-loop μ-loop
+add-past c = omega (arith, most (c .before .before .before .before .before .before .before .before))
 
 returns : tie.Need-returns Inv-loop μ-loop
 returns c =
@@ -96,5 +96,5 @@ returns-3 c =
 pub spare-number-spec : {M : Type 1} → statement M
 spare-number-spec =
     tie.close
-    (tie.spec Inv-loop μ-loop (search needs) slot-run-requires loop-holds add-result returns (search needs) (search needs) bit-at-requires is-spare-requires
+    (tie.spec Inv-loop μ-loop (search needs) slot-run-requires loop-holds add-past returns (search needs) (search needs) bit-at-requires is-spare-requires
     returns-2 next-run-requires add-n (search needs) loop-again returns-3)
