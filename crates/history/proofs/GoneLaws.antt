@@ -7,6 +7,7 @@ use native.Mathlib.Omega.{arith}
 use Rattle.answer.specs.declared.types.FileId.{FileId}
 use Rattle.header.specs.Fields.{hFseq}
 use Rattle.volume.specs.Volume.{slots, header, inUse}
+use Rattle.open_file.specs.Opening.{anyone}
 use Rattle.update.proofs.Effects.{Usable, Good}
 use Rattle.history.specs.Calls.{Call, step, run, Words, Each}
 use Rattle.history.specs.ReadBack.{Gone}
@@ -44,6 +45,6 @@ run-spent (call ∷ calls) image id g w p =
 
 pub spent-gone : (image : List ℕ) (id : FileId) → Usable image → id .volume ≡ 0 → Spent image id → Gone image id
 spent-gone image id g v p = record {
-  unused = λ u. open-unused image g id v u;
-  again = λ u. open-stale image g id v u (λ e. omega (arith, p .passed u));
+  unused = λ u. open-unused image g anyone id v u;
+  again = λ u. open-stale image g anyone id v u (λ e. omega (arith, p .passed u));
 }

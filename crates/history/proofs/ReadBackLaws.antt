@@ -20,7 +20,8 @@ use Rattle.open_file.specs.declared.OpenedFile.the-variants as openedFiles
 use Rattle.chains.specs.Chains.{chain, chainOf, fileBlocks, lastNumber}
 use Rattle.pointers.specs.Pointers.{flat}
 use Rattle.header.specs.Flags.{hasFlag, locked}
-use Rattle.open_file.specs.Opening.{openFile, openedFile, openAnswer}
+use Rattle.open_file.specs.Opening.{anyone, openFile, openedFile, openAnswer}
+use Rattle.open_file.proofs.OpeningLaws.{anyone-passed}
 use Rattle.lists.specs.Counts.{count, In}
 use Rattle.sound.specs.Claims.{IsFile}
 use Rattle.sound.proofs.MemberLaws.{flat-end}
@@ -118,7 +119,7 @@ module _ (image : List ℕ) (g : Good image) where
       let h = create-header c in
       let file : IsFile z (new .number) = record { used = create-effect c .is; first = create-effect c .first } in
       let opens : openFile z new ≡ Passed =
-      open-file z (good-usable (s .good)) new refl file (ap hFseq h ∙ c .fresh .fseq) (ap locked h ∙ unlocked _ (c .fresh .user) (c .fresh .system)) in
+      open-file z (good-usable (s .good)) anyone new refl file (ap hFseq h ∙ c .fresh .fseq) (anyone-passed _) (ap locked h ∙ unlocked _ (c .fresh .user) (c .fresh .system)) in
       let none : fileBlocks z (new .number) ≡ [] = no-blocks z (new .number) (create-effect c .unlinked) (create-effect c .empty) in
       rw (create-passes image name owner protection (length area) (length headers) p, creating.create-file image g name owner protection area headers w p, ← d .1)
       (open-done z new _ opens (ap length none))
@@ -205,8 +206,8 @@ module _ (image : List ℕ) (g : Good image) where
     opens =
         let o = extending.facts image g id c area headers p .opens in
         let good = extending.extend-step image g id c area headers p .good in
-        open-file z (good-usable good) id (o .found .relvol) (record { used = effect .used f ∙ file .used; first = first .seg ∙ file .first })
-        (first .word ∙ o .found .sequence) (first .lock ∙ o .unlocked)
+        open-file z (good-usable good) anyone id (o .found .relvol) (record { used = effect .used f ∙ file .used; first = first .seg ∙ file .first })
+        (first .word ∙ o .found .sequence) (anyone-passed _) (first .lock ∙ o .unlocked)
 
     extend-reads : (openAnswer z id ≡ openedFiles.Done (length (fileBlocks image f) + c)) × (fileBlocks z f ≡ fileBlocks image f ++ numbersFrom s c)
     extend-reads =
