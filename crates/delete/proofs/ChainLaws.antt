@@ -1,4 +1,4 @@
--- The three steps on the chain of a file of a good image: each may be taken, and together they are what delete does to the image.
+-- The three steps on the chain of a file of a usable image: each may be taken, and together they are what delete does to the image.
 use mathlib.Core.Path.{_≡_, refl, sym, ap, ap₂, _∙_}
 use mathlib.Core.Bool.{true, and-eq-true-iff}
 use mathlib.Core.List.{List, [], _∷_, _++_}
@@ -24,7 +24,7 @@ use Rattle.sound.specs.Claims.{IsFile}
 use Rattle.sound.proofs.MemberLaws.{in-here, in-tail}
 use Rattle.image.specs.Stores.{putMapBits}
 use Rattle.update.specs.Delete.{indexBits, clearSlots, withoutNumbers}
-use Rattle.update.proofs.Effects.{Good}
+use Rattle.update.proofs.Effects.{Usable}
 use Rattle.update.proofs.FrameLaws.{slot-clear, numbers-fit}
 use Rattle.update.proofs.DeleteLaws.{index-fits, storage-fits, header-index, Deleting, delete-used, delete-known, delete-commute}
 use Rattle.chains.specs.declared.Members.{Members}
@@ -46,8 +46,8 @@ flat-slots image a (n ∷ ns) same =
     ap₂ (λ (x y : List ℕ). x ++ y) (ap blocksOf (same n (in-here n ns))) (flat-slots image a ns (λ k m. same k (in-tail k n ns m)))
 
 module _ (image : List ℕ) (n : ℕ) (d : Deleting image n) (v : Volume) (e : v ≡ volumeOf image) (m : Members) (l : Lists image n m) where
-  abbrev g : Good image
-  g = d .good
+  abbrev g : Usable image
+  g = d .usable
 
   laid : Laid image v
   laid = says image v e
@@ -118,8 +118,8 @@ module _ (image : List ℕ) (n : ℕ) (d : Deleting image n) (v : Volume) (e : v
     unfolding faultOf mapBlocks
     freeable k u low high = record {
       outside = slot-clear image g k low high .storage;
-      fits = rw (same k low high) (whole-fits (blocks image) k (header image k) (header-length (g .opens) k low high) (g .sound .whole k u));
-      ends = rw (same k low high) (whole-ends k (4096 * mapBlocks (blocks image)) (header image k) (blocks image) (g .sound .whole k u) (omega arith));
+      fits = rw (same k low high) (whole-fits (blocks image) k (header image k) (header-length (g .opens) k low high) (g .safe .whole k u));
+      ends = rw (same k low high) (whole-ends k (4096 * mapBlocks (blocks image)) (header image k) (blocks image) (g .safe .whole k u) (omega arith));
     }
 
     pub storage-headers : AllFreeable a (v .base) q (m .count) (m .slots)

@@ -8,11 +8,10 @@ use Rattle.answer.specs.declared.refusal.Refusal.{Refusal}
 use Rattle.answer.specs.declared.refusal.Refusal.the-variants as refusal
 use Rattle.answer.specs.declared.outcome.Outcome.{Outcome}
 use Rattle.answer.specs.declared.outcome.Outcome.the-variants.{Passed, Refused}
-use Rattle.answer.specs.Outcome.{unless, _then_}
+use Rattle.answer.specs.Outcome.{unless}
 use Rattle.answer.proofs.OutcomeLaws.{then-passed, then-refused}
-use Rattle.volume.specs.Opening.{openVolume}
 use Rattle.chains.specs.Chains.{chainOf}
-use Rattle.open_file.specs.Opening.{find, access, chained, openFile}
+use Rattle.open_file.specs.Opening.{openFile}
 use Rattle.verdict.specs.Verdict.{verdict, afterwards}
 use Rattle.update.specs.declared.answers.Deleted.the-variants as answers
 use Rattle.update.specs.Extend.{isKnownNumber}
@@ -21,11 +20,6 @@ use Rattle.update.specs.Delete.{deleteOutcome, deleted, deleteAnswer, withoutNu
 module _ (image : List ℕ) (id : FileId) where
   abbrev without : List ℕ
   without = withoutNumbers image (chainOf image (id .number))
-
-  -- Opening a file on a volume that opens.
-  pub open-row : openVolume image ≡ Passed → openFile image id ≡ (find image id then access image id then chained image id)
-  unfolding openFile
-  open-row o = then-passed (openVolume image) (find image id then access image id then chained image id) o
 
   -- The tests on a volume that is judged.
   pub tests-refused : (r : Refusal) → openFile image id ≡ Refused r → deleteTests image id ≡ Refused r

@@ -22,13 +22,13 @@ ghost use Rattle.volume.specs.Volume.{slot};
 ghost use Rattle.volume.specs.Opening.{Recorded};
 ghost use Rattle.chains.specs.Chains.{chainOf, goodChain, IsFirst};
 ghost use Rattle.verdict.specs.Verdict.{afterwards, blockMarks, headerMarks};
-ghost use Rattle.sound.specs.Sound.{Sound};
+ghost use Rattle.sound.specs.Sound.{Safe};
 ghost use Rattle.update.specs.Delete.{deleted, deleteAnswer, withoutNumbers, deleteImage, deleteTests};
 
 // The chain of the file whose first header has number n and lies at this LBN given up: its index bits, its blocks, its slots. The slots come last, for
 // the pointers stand in them.
 fn delete_chain(image: &mut [u8], v: Volume, places: &Places, n: FileNumber, lbn: Lbn)
-    requires { ⌜ Recorded (now image) v (now places) × Sound (now image) × IsFirst (now image) (n .0) × (goodChain (now image) (n .0) ≡ true) × (6 ≤ n .0) × (lbn .0 ≡ slot (now image) (n .0)) ⌝ }
+    requires { ⌜ Recorded (now image) v (now places) × Safe (now image) × IsFirst (now image) (n .0) × (goodChain (now image) (n .0) ≡ true) × (6 ≤ n .0) × (lbn .0 ≡ slot (now image) (n .0)) ⌝ }
     ensures { λ _. ⌜ now (image .exit) ≡ withoutNumbers (now (image .entry)) (chainOf (now (image .entry)) (n .0)) ⌝ }
 {
     let m = members_of(image, v, places, n, lbn);
@@ -40,9 +40,9 @@ fn delete_chain(image: &mut [u8], v: Volume, places: &Places, n: FileNumber, lbn
     clear_slots(image, slots, m.count);
 }
 
-// Deletes a file on a volume that opens and is sound.
+// Deletes a file on a volume that opens and is safe.
 pub fn delete_on(image: &mut [u8], v: Volume, places: &Places, id: FileId) -> Deleted
-    requires { ⌜ Recorded (now image) v (now places) × Sound (now image) ⌝ }
+    requires { ⌜ Recorded (now image) v (now places) × Safe (now image) ⌝ }
     ensures { λ r. ⌜ (r ≡ deleted (deleteTests (now (image .entry)) id))
         × (now (image .exit) ≡ afterwards (deleteTests (now (image .entry)) id) (now (image .entry)) (withoutNumbers (now (image .entry)) (chainOf (now (image .entry)) (id .number)))) ⌝ }
 {

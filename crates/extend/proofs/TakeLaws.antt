@@ -1,4 +1,4 @@
--- What storing needs, of an image that is sound and passes extend's tests.
+-- What storing needs, of an image that is usable and passes extend's tests.
 use mathlib.Core.Path.{_≡_}
 use mathlib.Core.Bool.{true}
 use mathlib.Core.List.{List}
@@ -19,7 +19,7 @@ use Rattle.header_edit.specs.Extended.{extendedHeader}
 use Rattle.image.specs.Stores.{putBlock, putMapBits}
 use Rattle.update.specs.Extend.{hasRoom, runStart, withBlocks}
 use Rattle.chains.specs.Chains.{lastNumber}
-use Rattle.update.proofs.Effects.{Good}
+use Rattle.update.proofs.Effects.{Usable}
 use Rattle.update.proofs.FrameLaws.{slot-clear}
 use Rattle.image.proofs.WriteLaws.{putMapBits-outside}
 use Rattle.update.proofs.ExtendLaws.{count-range, run-fits}
@@ -27,7 +27,7 @@ use Rattle.update.proofs.PassedLaws.{ExtendPassed}
 use Rattle.update.proofs.LastLaws.{last-member}
 use Rattle.extend.specs.Taking.{Takes}
 
-module _ (image : List ℕ) (g : Good image) (id : FileId) (c : ℕ) (p : ExtendPassed image id c) where
+module _ (image : List ℕ) (g : Usable image) (id : FileId) (c : ℕ) (p : ExtendPassed image id c) where
   abbrev n : ℕ
   n = id .number
 
@@ -35,17 +35,17 @@ module _ (image : List ℕ) (g : Good image) (id : FileId) (c : ℕ) (p : Extend
   last = lastNumber image n
 
   last-used : inUse image last ≡ true
-  last-used = member-used image (g .sound) n (p .file) last (last-member image (g .bytes) (g .sound) n (p .file))
+  last-used = member-used image (g .safe) n (p .file) last (last-member image (g .bytes) (g .safe) n (p .file))
 
   pub takes : Takes image (slot image last) (runStart image c) c
   unfolding hasRoom header faultOf
   takes =
-      let high = g .sound .slotted last last-used in
+      let high = g .safe .slotted last last-used in
       let low = used-range image last last-used .0 in
       record {
         inside = slot-below (g .opens) last low high;
         apart = slot-clear image g last low high .storage;
-        area = whole-is (blocks image) last (header image last) (g .sound .whole last last-used) .room;
+        area = whole-is (blocks image) last (header image last) (g .safe .whole last last-used) .room;
         room = leb-true (mUse (header image last) + 2) (mMax (header image last)) (p .room);
         least = count-range c (p .counted) .0;
         most = count-range c (p .counted) .1;

@@ -13,14 +13,14 @@ ghost use lib.ListN.{length};
 ghost use Rattle.volume.specs.Opening.{Recorded};
 ghost use Rattle.chains.specs.Chains.{lastNumber};
 ghost use Rattle.verdict.specs.Verdict.{afterwards, headerMarks, blockMarks};
-ghost use Rattle.sound.specs.Sound.{Sound};
+ghost use Rattle.sound.specs.Sound.{Safe};
 ghost use Rattle.update.specs.Extend.{runStart, extended, extendAnswer, withBlocks, extendImage, extendTests};
 
 pub mod taking;
 
-// Extend on a volume that is judged.
+// Extend on a volume that opens and is safe.
 pub fn extend_on(image: &mut [u8], v: Volume, places: &Places, id: FileId, c: u32) -> Extended
-    requires { ⌜ Recorded (now image) v (now places) × Sound (now image) ⌝ }
+    requires { ⌜ Recorded (now image) v (now places) × Safe (now image) ⌝ }
     ensures { λ r. ⌜ (r ≡ extended (extendTests (now (image .entry)) id c) (runStart (now (image .entry)) c))
         × (now (image .exit) ≡ afterwards (extendTests (now (image .entry)) id c) (now (image .entry)) (withBlocks (now (image .entry)) (lastNumber (now (image .entry)) (id .number)) (runStart (now (image .entry)) c) c)) ⌝ }
 {

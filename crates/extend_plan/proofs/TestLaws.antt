@@ -21,7 +21,8 @@ use Rattle.runs.specs.declared.Start.{Start}
 use Rattle.runs.specs.declared.Start.the-variants as starts
 use Rattle.runs.specs.Runs.{startOf}
 use Rattle.chains.specs.Chains.{lastNumber}
-use Rattle.open_file.specs.Opening.{find, access, chained, openFile}
+use Rattle.open_file.specs.Opening.{anyone, openOn}
+use Rattle.open_file.proofs.OpeningLaws.{by-on}
 use Rattle.verdict.specs.Verdict.{verdict}
 use Rattle.update.specs.declared.answers.Extended.the-variants as answers
 use Rattle.update.specs.Extend.{isKnownNumber, isCount, hasRoom, runStart, hasRun, extendOutcome, extended, extendTests}
@@ -123,16 +124,11 @@ pub planned-at : (image : List ℕ) (c lbn : ℕ) (o : Outcome) (last k : ℕ) (
     → p ≡ planned o last lbn
 planned-at image c lbn o last k p q e f = rw (q, ← f) e
 
--- Opening a file on a volume that opens.
+-- The tests one after the other, on a volume that opens.
 module _ (image : List ℕ) (id : FileId) (o : openVolume image ≡ outcome.Passed) where
-  abbrev pub finding : Outcome
-  finding = find image id then access image id then chained image id
+  abbrev finding : Outcome
+  finding = openOn anyone image id
 
-  pub finding-is : openFile image id ≡ finding
-  unfolding openFile
-  finding-is = then-passed (openVolume image) finding o
-
-  -- The tests one after the other.
   module _ (c : ℕ) where
     abbrev known : Outcome
     known = unless (not (isKnownNumber (id .number))) refusal.Known
@@ -149,7 +145,7 @@ module _ (image : List ℕ) (id : FileId) (o : openVolume image ≡ outcome.Pass
     tests-are : extendTests image id c ≡ (finding then (admits (header image (id .number)) (id .number) c then last))
     unfolding extendTests header
     tests-are =
-        ap (λ (row : Outcome). row then (known then (fixed then (counted then last)))) finding-is
+        ap (λ (row : Outcome). row then (known then (fixed then (counted then last)))) (by-on anyone image id o)
         ∙ ap (λ (row : Outcome). finding then row) (ap (λ (row : Outcome). known then row) (sym (then-assoc fixed counted last)) ∙ sym (then-assoc known (fixed then counted) last))
 
     pub tests-opening : (r : Refusal) → finding ≡ outcome.Refused r → extendTests image id c ≡ outcome.Refused r

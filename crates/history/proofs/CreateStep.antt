@@ -17,7 +17,7 @@ use Rattle.fresh_header.specs.Fresh.{freshHeader}
 use Rattle.fresh_header.proofs.FreshLaws.{fresh-is}
 use Rattle.spare_number.specs.SpareNumber.{spareNumber}
 use Rattle.update.specs.Create.{createOutcome, withFile, withNumber, newSequence}
-use Rattle.update.proofs.Effects.{Good}
+use Rattle.update.proofs.Effects.{Good, good-usable}
 use Rattle.update.proofs.FrameLaws.{volume-same, record-same, slots-same, header-same, opens-after, kept}
 use Rattle.update.proofs.PassedLaws.{CreatePassed, create-passed}
 use Rattle.update.proofs.DoneLaws.{sequence-above}
@@ -43,7 +43,7 @@ module _ (image : List ℕ) (g : Good image) (name : Name) (owner protection : �
   pub creating : Creating image n q h
   unfolding newSequence
   creating = record {
-    good = g;
+    usable = good-usable g;
     low = facts .spare .low;
     has = facts .spare .has;
     high = facts .high;
@@ -89,7 +89,7 @@ module _ (image : List ℕ) (g : Good image) (name : Name) (owner protection : �
         places = record-same written bits;
         slotted = slots-same written bits;
         used = λ f above file unnamed. create-effect creating .others f (other f (file .used)) ∙ file .used;
-        kept = λ f above file unnamed. kept written bits f (omega arith) file (λ x m e. other x (member-used image (g .sound) f file x m) e);
+        kept = λ f above file unnamed. kept written bits f (omega arith) file (λ x m e. other x (member-used image (g .sound .safe) f file x m) e);
         rises = λ k a b. rises k a b (ℕ-discrete k n);
         renewed = λ k a b was is. renewed k was is (ℕ-discrete k n);
         size = create-length creating;

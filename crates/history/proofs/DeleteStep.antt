@@ -17,7 +17,7 @@ use Rattle.sound.specs.Claims.{IsFile}
 use Rattle.sound.proofs.ChainLaws.{chains-apart}
 use Rattle.header_edit.proofs.ClearedLaws.{cleared-fseq}
 use Rattle.update.specs.Delete.{deleteOutcome, withoutNumbers}
-use Rattle.update.proofs.Effects.{Good}
+use Rattle.update.proofs.Effects.{Good, good-usable}
 use Rattle.update.proofs.FrameLaws.{volume-same, record-same, slots-same, header-same, opens-after, kept}
 use Rattle.update.proofs.PassedLaws.{DeletePassed, delete-passed}
 use Rattle.update.proofs.DeleteSound.{delete-sound}
@@ -38,14 +38,14 @@ module _ (image : List ℕ) (g : Good image) (id : FileId) (area headers : List 
   facts = delete-passed image id (length area) (length headers) p
 
   pub deleting : Deleting image (id .number)
-  deleting = record { good = g; file = facts .file; high = facts .above }
+  deleting = record { usable = good-usable g; file = facts .file; high = facts .above }
 
   -- No member of the chain is a member of another file's chain.
   apart : (f : ℕ) → IsFile image f → (f ≡ id .number → ⊥) → (x : ℕ) → In x (chainOf image f) → In x l → ⊥
-  apart f file ne x m i = ne (chains-apart image (g .sound) f (id .number) file (facts .file) x m i)
+  apart f file ne x m i = ne (chains-apart image (g .sound .safe) f (id .number) file (facts .file) x m i)
 
   stays : (f : ℕ) → IsFile image f → (f ≡ id .number → ⊥) → Dec (0 < count f l) → inUse z f ≡ true
-  stays f file ne (yes i) = absurd (apart f file ne f (first-in image g f file) i)
+  stays f file ne (yes i) = absurd (apart f file ne f (first-in image (good-usable g) f file) i)
   stays f file ne (no i) = delete-effect deleting .used f (omega arith) ∙ file .used
 
   pub word : (k : ℕ) → 1 ≤ k → k ≤ slots image → Dec (0 < count k l) → hFseq (header z k) ≡ hFseq (header image k)

@@ -13,9 +13,9 @@ use Rattle.volume.specs.Volume.{slots, header}
 use Rattle.chains.specs.Chains.{chainOf, lastNumber}
 use Rattle.lists.specs.Counts.{In}
 use Rattle.sound.specs.Claims.{IsFile}
-use Rattle.sound.proofs.ChainLaws.{member-used, chains-apart}
+use Rattle.sound.proofs.ChainLaws.{known-file, member-used, chains-apart}
 use Rattle.update.specs.Extend.{runStart, extendOutcome, withBlocks}
-use Rattle.update.proofs.Effects.{Good}
+use Rattle.update.proofs.Effects.{Good, good-usable}
 use Rattle.update.proofs.FrameLaws.{volume-same, record-same, slots-same, header-same, opens-after, kept}
 use Rattle.update.proofs.PassedLaws.{ExtendPassed, extend-passed}
 use Rattle.update.proofs.LastLaws.{last-member}
@@ -40,22 +40,22 @@ module _ (image : List ℕ) (g : Good image) (id : FileId) (c : ℕ) (area heade
   facts = extend-passed image id c (length area) (length headers) p
 
   pub member : In n (chainOf image (id .number))
-  member = last-member image (g .bytes) (g .sound) (id .number) (facts .file)
+  member = last-member image (g .bytes) (g .sound .safe) (id .number) (facts .file)
 
   known : (6 ≤ n) × (n ≤ slots image)
-  known = delete-known (record { good = g; file = facts .file; high = facts .above }) n member
+  known = delete-known (record { usable = good-usable g; file = facts .file; high = facts .above }) n member
 
   -- The last header of a file above 5 is none of the index file's.
   apart-one : In n (chainOf image 1) → ⊥
   apart-one m =
-      let k = g .sound .known 1 (omega arith) (omega arith) in
-      omega (arith, facts .above, chains-apart image (g .sound) 1 (id .number) (record { used = k .used; first = k .first }) (facts .file) n m member)
+      let s = g .sound .safe in
+      omega (arith, facts .above, chains-apart image s 1 (id .number) (known-file image s 1 (omega arith) (omega arith)) (facts .file) n m member)
 
   pub extending : Extending image n s c
   extending = record {
-    good = g;
+    usable = good-usable g;
     low = known .0;
-    used = member-used image (g .sound) (id .number) (facts .file) n member;
+    used = member-used image (g .sound .safe) (id .number) (facts .file) n member;
     apart = λ m. apart-one m;
     room = facts .room;
     counted = facts .counted;
@@ -68,7 +68,7 @@ module _ (image : List ℕ) (g : Good image) (id : FileId) (c : ℕ) (area heade
 
   -- The last header of the file is a member of no other file's chain.
   apart : (f : ℕ) → IsFile image f → (f ≡ id .number → ⊥) → (x : ℕ) → In x (chainOf image f) → x ≡ n → ⊥
-  apart f file ne x m e = ne (chains-apart image (g .sound) f (id .number) file (facts .file) n (rw e at m) member)
+  apart f file ne x m e = ne (chains-apart image (g .sound .safe) f (id .number) file (facts .file) n (rw e at m) member)
 
   word : (k : ℕ) → 1 ≤ k → k ≤ slots image → Dec (k ≡ n) → hFseq (header z k) ≡ hFseq (header image k)
   word k a b (yes e) = rw e (extend-effect extending .fseq)

@@ -7,7 +7,8 @@ use native.Mathlib.Omega.{arith}
 use Rattle.answer.specs.declared.types.FileId.{FileId}
 use Rattle.header.specs.Fields.{hFseq}
 use Rattle.volume.specs.Volume.{slots, header, inUse}
-use Rattle.update.proofs.Effects.{Good}
+use Rattle.open_file.specs.Opening.{anyone}
+use Rattle.update.proofs.Effects.{Usable, Good}
 use Rattle.history.specs.Calls.{Call, step, run, Words, Each}
 use Rattle.history.specs.ReadBack.{Gone}
 use Rattle.history.proofs.Step.{Step}
@@ -42,8 +43,8 @@ run-spent (call ∷ calls) image id g w p =
     let s = step-is call image g (w .0) in
     run-spent calls (step call image) id (s .good) (w .1) (spent-step call image (step call image) id s p)
 
-pub spent-gone : (image : List ℕ) (id : FileId) → Good image → id .volume ≡ 0 → Spent image id → Gone image id
+pub spent-gone : (image : List ℕ) (id : FileId) → Usable image → id .volume ≡ 0 → Spent image id → Gone image id
 spent-gone image id g v p = record {
-  unused = λ u. open-unused image g id v u;
-  again = λ u. open-stale image g id v u (λ e. omega (arith, p .passed u));
+  unused = λ u. open-unused image g anyone id v u;
+  again = λ u. open-stale image g anyone id v u (λ e. omega (arith, p .passed u));
 }

@@ -15,7 +15,7 @@ use Rattle.chains.specs.Chains.{fileBlocks}
 use Rattle.lists.proofs.CountLaws.{count-at}
 use Rattle.sound.specs.Claims.{IsFile}
 use Rattle.sound.proofs.ExactLaws.{exact}
-use Rattle.update.proofs.Effects.{Good}
+use Rattle.update.proofs.Effects.{Usable, Good, good-usable}
 use Rattle.history.specs.Calls.{Call, step, run, Words, Names, Each}
 use Rattle.history.specs.Claims.{Accepted, lastKnown, Protected, Same, Demand3}
 use Rattle.history.specs.Writing.{WritesBounded, VolumeSteady}
@@ -43,7 +43,7 @@ run-good [] image g w = g
 run-good (call ∷ calls) image g w = run-good calls (step call image) (step-is call image g (w .0) .good) (w .1)
 
 -- What a step keeps of a file that it does not name.
-step-same : (call : Call) (image image′ : List ℕ) → Good image → Step call image image′ → (f : ℕ) → lastKnown < f → IsFile image f
+step-same : (call : Call) (image image′ : List ℕ) → Usable image → Step call image image′ → (f : ℕ) → lastKnown < f → IsFile image f
     → (Names call f (hFseq (header image f)) → ⊥) → Same image image′ f
 step-same call image image′ g s f above file unnamed =
     let k = s .kept f above file unnamed in
@@ -68,7 +68,7 @@ unfolding run
 run-same [] image g w f p = record { file = p .file; sequence = refl; blocks = refl; bytes = λ i l. refl }
 run-same (call ∷ calls) image g w f p =
     let s = step-is call image g (w .0) in
-    let a = step-same call image (step call image) g s f (p .above) (p .file) (p .unnamed .0) in
+    let a = step-same call image (step call image) (good-usable g) s f (p .above) (p .file) (p .unnamed .0) in
     let q : Protected (step call image) calls f = record { above = p .above; file = a .file; unnamed = rw (a .sequence) (p .unnamed .1) } in
     same-trans image (step call image) (run calls (step call image)) f a (run-same calls (step call image) (s .good) (w .1) f q)
 

@@ -20,7 +20,8 @@ use Rattle.open_file.specs.declared.OpenedFile.the-variants as openedFiles
 use Rattle.chains.specs.Chains.{chain, chainOf, fileBlocks, lastNumber}
 use Rattle.pointers.specs.Pointers.{flat}
 use Rattle.header.specs.Flags.{hasFlag, locked}
-use Rattle.open_file.specs.Opening.{openFile, openedFile, openAnswer}
+use Rattle.open_file.specs.Opening.{anyone, openFile, openedFile, openAnswer}
+use Rattle.open_file.proofs.OpeningLaws.{anyone-passed}
 use Rattle.lists.specs.Counts.{count, In}
 use Rattle.sound.specs.Claims.{IsFile}
 use Rattle.sound.proofs.MemberLaws.{flat-end}
@@ -34,7 +35,7 @@ use Rattle.update.specs.declared.answers.Deleted.the-variants as deletes
 use Rattle.update.specs.Create.{createOutcome, newId, created, createAnswer, newSequence}
 use Rattle.update.specs.Extend.{runStart, extendOutcome, extended, extendAnswer}
 use Rattle.update.specs.Delete.{deleteOutcome, deleted, deleteAnswer}
-use Rattle.update.proofs.Effects.{Good, Extended as Extends}
+use Rattle.update.proofs.Effects.{Good, good-usable, Extended as Extends}
 use Rattle.update.proofs.DoneLaws.{create-passes, extend-passes, delete-passes}
 use Rattle.update.proofs.ChainSame.{chain-links}
 use Rattle.update.proofs.LastLaws.{file-grow}
@@ -118,7 +119,7 @@ module _ (image : List ℕ) (g : Good image) where
       let h = create-header c in
       let file : IsFile z (new .number) = record { used = create-effect c .is; first = create-effect c .first } in
       let opens : openFile z new ≡ Passed =
-      open-file z (s .good) new refl file (ap hFseq h ∙ c .fresh .fseq) (ap locked h ∙ unlocked _ (c .fresh .user) (c .fresh .system)) in
+      open-file z (good-usable (s .good)) anyone new refl file (ap hFseq h ∙ c .fresh .fseq) (anyone-passed _) (ap locked h ∙ unlocked _ (c .fresh .user) (c .fresh .system)) in
       let none : fileBlocks z (new .number) ≡ [] = no-blocks z (new .number) (create-effect c .unlinked) (create-effect c .empty) in
       rw (create-passes image name owner protection (length area) (length headers) p, creating.create-file image g name owner protection area headers w p, ← d .1)
       (open-done z new _ opens (ap length none))
@@ -132,7 +133,7 @@ module _ (image : List ℕ) (g : Good image) where
       let s = deleting.delete-step image g id area headers p in
       let z = deleting.z image g id area headers p in
       let n = id .number in
-      let own = first-in image g n (f .file) in
+      let own = first-in image (good-usable g) n (f .file) in
       let gone : inUse z n ≡ false = delete-effect d .gone n own in
       let known = delete-known d n own in
       let word : hFseq (header z n) ≡ hFseq (header image n) = deleting.word image g id area headers p n (omega (arith, known .0)) (known .1) (decLt 0 (count n (chainOf image n))) in
@@ -142,7 +143,7 @@ module _ (image : List ℕ) (g : Good image) where
         reached = omega (arith, word, f .opens .found .sequence);
         passed = λ u. absurd (false≢true (sym gone ∙ u));
       } in
-      rw (delete-passes image id (length area) (length headers) p) (gone, λ calls w. spent-gone (run calls z) id (run-good calls z (s .good) w) (f .opens .found .relvol) (run-spent calls z id (s .good) w spent))
+      rw (delete-passes image id (length area) (length headers) p) (gone, λ calls w. spent-gone (run calls z) id (good-usable (run-good calls z (s .good) w)) (f .opens .found .relvol) (run-spent calls z id (s .good) w spent))
 
   module _ (id : FileId) (c : ℕ) (area headers : List ℕ) (p : extendOutcome image id c (length area) (length headers) ≡ Passed) where
     abbrev f : ℕ
@@ -192,21 +193,21 @@ module _ (image : List ℕ) (g : Good image) where
     chain-stays = chain-links (header image) (header z) 256 f (λ k m. alike k (member k m) (ℕ-discrete k n) .link)
       where
         member : (k : ℕ) → In k (chain (header image) 256 f) → inUse image k ≡ true
-        member k m = chain-used image (g .sound) 256 f k (file .used) m
+        member k m = chain-used image (g .sound .safe) 256 f k (file .used) m
 
     grows : fileBlocks z f ≡ fileBlocks image f ++ numbersFrom s c
     unfolding fileBlocks
     grows =
         ap (flat (header z)) chain-stays
-        ∙ file-grow image (g .bytes) (g .sound) (header z) (numbersFrom s c) f file
-        (λ k m ne. effect .headers k (member-used image (g .sound) f file k m) ne) (effect .more)
+        ∙ file-grow image (g .bytes) (g .sound .safe) (header z) (numbersFrom s c) f file
+        (λ k m ne. effect .headers k (member-used image (g .sound .safe) f file k m) ne) (effect .more)
 
     opens : openFile z id ≡ Passed
     opens =
         let o = extending.facts image g id c area headers p .opens in
         let good = extending.extend-step image g id c area headers p .good in
-        open-file z good id (o .found .relvol) (record { used = effect .used f ∙ file .used; first = first .seg ∙ file .first })
-        (first .word ∙ o .found .sequence) (first .lock ∙ o .unlocked)
+        open-file z (good-usable good) anyone id (o .found .relvol) (record { used = effect .used f ∙ file .used; first = first .seg ∙ file .first })
+        (first .word ∙ o .found .sequence) (anyone-passed _) (first .lock ∙ o .unlocked)
 
     extend-reads : (openAnswer z id ≡ openedFiles.Done (length (fileBlocks image f) + c)) × (fileBlocks z f ≡ fileBlocks image f ++ numbersFrom s c)
     extend-reads =

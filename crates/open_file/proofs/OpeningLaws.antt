@@ -1,5 +1,5 @@
 -- Laws of opening a file: what each part answers at the first test that is not met, and what a file that opens has.
-use mathlib.Core.Path.{_≡_, refl, sym, subst, _∙_}
+use mathlib.Core.Path.{_≡_, refl, sym, _∙_}
 use mathlib.Core.Bool.{true, false, not}
 use mathlib.Core.List.{List}
 use Prim.Native.Nat.{ℕ}
@@ -7,22 +7,21 @@ use native.Mathlib.Omega.{arith}
 use borrow.Author.Tests.{eq-eqb, ne-eqb, eqb-true, not-true}
 use lib.Dec.{eqb}
 use Rattle.answer.specs.declared.types.FileId.{FileId}
-use Rattle.answer.specs.declared.types.Lbn.{Lbn}
 use Rattle.answer.specs.declared.refusal.Refusal.{Refusal}
 use Rattle.answer.specs.declared.refusal.Refusal.the-variants as refusal
 use Rattle.answer.specs.declared.outcome.Outcome.{Outcome}
 use Rattle.answer.specs.declared.outcome.Outcome.the-variants.{Passed, Refused}
 use Rattle.answer.specs.Outcome.{unless, _then_}
-use Rattle.answer.proofs.OutcomeLaws.{refused-not, passed-then, passed-last, passed-first}
+use Rattle.answer.proofs.OutcomeLaws.{refused-not, then-passed, then-refused, passed-then, passed-last, passed-first}
 use Rattle.header.specs.Fields.{hFseq, segment}
-use Rattle.volume.specs.Volume.{slot, header, faultOf, isNumber}
+use Rattle.volume.specs.Volume.{header}
 use Rattle.volume.specs.Opening.{openVolume}
 use Rattle.chains.specs.Chains.{goodChain, IsFirst}
 use Rattle.chains.specs.Finding.{findNumber}
 use Rattle.chains.proofs.FindingLaws.{find-is}
 use Rattle.open_file.specs.declared.OpenedOn.{OpenedOn}
 use Rattle.open_file.specs.declared.OpenFile.{OpenFile}
-use Rattle.open_file.specs.Opening.{find, access, chained, openFile, Tells, TellsPlaces}
+use Rattle.open_file.specs.Opening.{find, access, chained, Gate, anyone, openOn, openBy, Tells, TellsPlaces}
 use Rattle.header.specs.Flags.{locked}
 
 -- A refusal tells nothing but itself.
@@ -64,6 +63,10 @@ module _ (image : List ℕ) (id : FileId) where
   unfolding access
   access-by h e = rw e
 
+  pub access-passed : locked (header image (id .number)) ≡ false → access image id ≡ Passed
+  unfolding access unless
+  access-passed u = rw u
+
   pub chained-bad : goodChain image (id .number) ≡ false → chained image id ≡ Refused refusal.Chain
   unfolding chained unless
   chained-bad g = rw g
@@ -79,9 +82,10 @@ pub record Finds (image : List ℕ) (id : FileId) : Type 0 where
   pub sequence : hFseq (header image (id .number)) ≡ id .sequence
 
 -- What a file that opens has.
-pub record Opened (image : List ℕ) (id : FileId) : Type 0 where
+pub record Opened (gate : Gate) (image : List ℕ) (id : FileId) : Type 0 where
   pub volume : openVolume image ≡ Passed
   pub found : Finds image id
+  pub admitted : gate (header image (id .number)) ≡ Passed
   pub unlocked : locked (header image (id .number)) ≡ false
   pub chain : goodChain image (id .number) ≡ true
 
@@ -101,15 +105,64 @@ module _ (image : List ℕ) (id : FileId) where
         sequence = eqb-true (hFseq (header image n)) (id .sequence) (q .0);
       }
 
-  pub opened : openFile image id ≡ Passed → Opened image id
-  unfolding openFile access chained
-  opened e =
+  pub opened : {gate : Gate} → openBy gate image id ≡ Passed → Opened gate image id
+  unfolding openBy openOn access chained
+  opened {gate} e =
       let v = passed-then (openVolume image) _ e in
       let f = passed-then (find image id) _ (v .1) in
-      let a = passed-first (not (locked (header image (id .number)))) refusal.Locked _ (f .1) in
+      let g = passed-then (gate (header image (id .number))) _ (f .1) in
+      let a = passed-then (access image id) (chained image id) (g .1) in
       record {
         volume = v .0;
         found = finds (f .0);
-        unlocked = not-true (locked (header image (id .number))) (a .0);
+        admitted = g .0;
+        unlocked = not-true (locked (header image (id .number))) (passed-last (not (locked (header image (id .number)))) refusal.Locked (a .0));
         chain = passed-last (goodChain image (id .number)) refusal.Chain (a .1);
       }
+
+-- Without a user code nothing is asked.
+pub anyone-passed : (h : List ℕ) → anyone h ≡ Passed
+unfolding anyone
+anyone-passed h = refl
+
+-- Opening a file by its parts, whatever the gate.
+module _ (gate : Gate) (image : List ℕ) (id : FileId) where
+  pub on-unfound : (r : Refusal) → find image id ≡ Refused r → openOn gate image id ≡ Refused r
+  unfolding openOn
+  on-unfound r e = then-refused (find image id) _ r e
+
+  pub on-denied : find image id ≡ Passed → (r : Refusal) → gate (header image (id .number)) ≡ Refused r → openOn gate image id ≡ Refused r
+  unfolding openOn
+  on-denied f r e = then-passed (find image id) _ f ∙ then-refused (gate (header image (id .number))) _ r e
+
+  module _ (f : find image id ≡ Passed) (a : gate (header image (id .number)) ≡ Passed) where
+    on-admitted : openOn gate image id ≡ (access image id then chained image id)
+    unfolding openOn
+    on-admitted = then-passed (find image id) _ f ∙ then-passed (gate (header image (id .number))) (access image id then chained image id) a
+
+    pub on-locked : (r : Refusal) → access image id ≡ Refused r → openOn gate image id ≡ Refused r
+    on-locked r e = on-admitted ∙ then-refused (access image id) (chained image id) r e
+
+    pub on-chained : access image id ≡ Passed → openOn gate image id ≡ chained image id
+    on-chained e = on-admitted ∙ then-passed (access image id) (chained image id) e
+
+  pub by-unopened : (r : Refusal) → openVolume image ≡ Refused r → openBy gate image id ≡ Refused r
+  unfolding openBy
+  by-unopened r e = then-refused (openVolume image) (openOn gate image id) r e
+
+  -- On a volume that opens.
+  pub by-on : openVolume image ≡ Passed → openBy gate image id ≡ openOn gate image id
+  unfolding openBy
+  by-on o = then-passed (openVolume image) (openOn gate image id) o
+
+  -- An ID with another sequence number is refused.
+  pub record Refuses : Type 0 where
+    pub why : Refusal
+    pub is : openBy gate image id ≡ Refused why
+
+  pub refuses : (hFseq (header image (id .number)) ≡ id .sequence → ⊥) → Refuses
+  refuses other = go (openBy gate image id) refl
+    where
+      go : (o : Outcome) → openBy gate image id ≡ o → Refuses
+      go Passed e = absurd (other (opened image id e .found .sequence))
+      go (Refused r) e = record { why = r; is = e }

@@ -38,9 +38,24 @@ access image id = unless (not (locked (header image (id .number)))) refusal.Lock
 unfoldable pub chained : List ℕ → FileId → Outcome
 chained image id = unless (goodChain image (id .number)) refusal.Chain
 
--- 01, Answer numbers: "Order: 1 to 5; .. 6 to 12". Every call that opens a file opens it so.
-unfoldable pub openFile : List ℕ → FileId → Outcome
-openFile image id = openVolume image then find image id then access image id then chained image id
+-- What is asked of a file's first header between SEGMENT and LOCKED. 02, 14/14: "34 DENIED, after SEGMENT and before LOCKED".
+abbrev pub Gate : Type 0
+Gate = List ℕ → Outcome
+
+-- 02, 14/14: "The calls without a user code stay": nothing is asked there.
+unfoldable pub anyone : Gate
+anyone h = outcome.Passed
+
+-- Opening a file on an opened volume. 01, Answer numbers: "Order: .. 6 to 12".
+unfoldable pub openOn : Gate → List ℕ → FileId → Outcome
+openOn gate image id = find image id then gate (header image (id .number)) then access image id then chained image id
+
+-- Opening a file. 01, Answer numbers: "Order: 1 to 5; .. 6 to 12". Every call that opens a file opens it so.
+unfoldable pub openBy : Gate → List ℕ → FileId → Outcome
+openBy gate image id = openVolume image then openOn gate image id
+
+abbrev pub openFile : List ℕ → FileId → Outcome
+openFile image id = openBy anyone image id
 
 -- What the calls that go on from an opened file are told: the outcome, and where that is passed how many blocks the file has and the LBN of its first
 -- header. There are never more blocks than 256 headers with 127 pointers of 256 blocks can cover: 8,323,072.

@@ -21,13 +21,13 @@ ghost use mathlib.Core.Bool.{not};
 ghost use Rattle.image.specs.Stores.{zeros};
 ghost use Rattle.answer.specs.declared.refusal.Refusal.the-variants as refusal;
 ghost use Rattle.answer.specs.declared.outcome.Outcome.the-variants as outcome;
-ghost use Rattle.answer.specs.Outcome.{unless, _then_};
+ghost use Rattle.answer.specs.Outcome.{unless};
 ghost use Rattle.header.specs.Flags.{locked};
 ghost use Rattle.volume.specs.Volume.{slot};
 ghost use Rattle.volume.specs.Opening.{Recorded};
 ghost use Rattle.chains.specs.Chains.{IsFirst};
 ghost use Rattle.chains.specs.Finding.{Finds};
-ghost use Rattle.open_file.specs.Opening.{find, access, chained, openFile, Tells, TellsPlaces, openAnswer};
+ghost use Rattle.open_file.specs.Opening.{find, chained, anyone, openOn, openFile, Tells, TellsPlaces, openAnswer};
 
 // The answer of opening a file.
 pub enum OpenedFile {
@@ -128,7 +128,7 @@ fn open_chain(image: &[u8], v: Volume, places: &Places, id: FileId, lbn: Lbn) ->
 // Opens a file on an opened volume.
 pub fn open_on(image: &[u8], v: Volume, places: &Places, id: FileId) -> OpenedOn
     requires { ⌜ Recorded (now image) v (now places) ⌝ }
-    ensures { λ r. ⌜ Tells (now (image .entry)) id (find (now (image .entry)) id then access (now (image .entry)) id then chained (now (image .entry)) id) r ⌝ }
+    ensures { λ r. ⌜ Tells (now (image .entry)) id (openOn anyone (now (image .entry)) id) r ⌝ }
 {
     let found = find(image, v, places, id);
     let lbn = found.header;

@@ -4,14 +4,13 @@ use mathlib.Core.List.{List}
 use Prim.Native.Nat.{ℕ}
 use Rattle.answer.specs.declared.types.FileId.{FileId}
 use Rattle.answer.specs.declared.types.Name.{Name}
-use Rattle.answer.specs.declared.refusal.Refusal.{Refusal}
 use Rattle.answer.specs.declared.refusal.Refusal.the-variants as refusal
 use Rattle.answer.specs.declared.outcome.Outcome.{Outcome}
 use Rattle.answer.specs.declared.outcome.Outcome.the-variants.{Passed, Refused}
 use Rattle.answer.proofs.RefusalLaws.{refused-number}
-use Rattle.open_file.specs.Opening.{openFile, openedFile, openAnswer}
+use Rattle.open_file.specs.Opening.{anyone, openedFile, openAnswer}
 use Rattle.mapping.specs.Mapping.{mapAnswer}
-use Rattle.open_file.proofs.OpeningLaws.{opened}
+use Rattle.open_file.proofs.OpeningLaws.{Refuses, refuses}
 use Rattle.mapping.proofs.MappingLaws.{map-refused}
 use Rattle.look_up.specs.LookUp.{lookUp, nextRecord}
 use Rattle.look_up.proofs.LookUpLaws.{look-refused, next-refused}
@@ -27,40 +26,31 @@ use Rattle.directory_words.specs.Words.{foundWords, steppedWords}
 use Rattle.change_words.specs.Words.{extendedWords, deletedWords}
 use Rattle.sequence.specs.Sequence.{OtherSequence, IsRefused, SequenceAsked}
 
--- What opening a file is refused with.
-record Refuses (image : List ℕ) (id : FileId) : Type 0 where
-  why : Refusal
-  is : openFile image id ≡ Refused why
-
 module _ (image : List ℕ) (id : FileId) (other : OtherSequence image id) where
-  refuses : Refuses image id
-  refuses = go (openFile image id) refl
-    where
-      go : (o : Outcome) → openFile image id ≡ o → Refuses image id
-      go Passed e = absurd (other (opened image id e .found .sequence))
-      go (Refused r) e = record { why = r; is = e }
+  abbrev opens : Refuses anyone image id
+  opens = refuses anyone image id other
 
   open-refused : IsRefused (openedFileWords (openAnswer image id))
   unfolding openAnswer openedFile
-  open-refused = rw (refuses .is) (refused-number (refuses .why))
+  open-refused = rw (opens .is) (refused-number (opens .why))
 
   mapped-refused : (vbn : ℕ) → IsRefused (mappedWords (mapAnswer image id vbn))
-  mapped-refused vbn = rw (map-refused image id vbn (refuses .why) (refuses .is)) (refused-number (refuses .why))
+  mapped-refused vbn = rw (map-refused image id vbn (opens .why) (opens .is)) (refused-number (opens .why))
 
   block-refused : (vbn : ℕ) → IsRefused (blockWords (mapAnswer image id vbn))
-  block-refused vbn = rw (map-refused image id vbn (refuses .why) (refuses .is)) (refused-number (refuses .why))
+  block-refused vbn = rw (map-refused image id vbn (opens .why) (opens .is)) (refused-number (opens .why))
 
   found-refused : (name : Name) → IsRefused (foundWords (lookUp image id name))
-  found-refused name = rw (look-refused image id name (refuses .why) (refuses .is)) (refused-number (refuses .why))
+  found-refused name = rw (look-refused image id name (opens .why) (opens .is)) (refused-number (opens .why))
 
   stepped-refused : (place : ℕ) → IsRefused (steppedWords (nextRecord image id place))
-  stepped-refused place = rw (next-refused image id place (refuses .why) (refuses .is)) (refused-number refusal.Absent)
+  stepped-refused place = rw (next-refused image id place (opens .why) (opens .is)) (refused-number refusal.Absent)
 
   attributes-refused : IsRefused (describedWords (fileAnswer image id))
-  attributes-refused = rw (← described-refused image id (refuses .why) (refuses .is)) (refused-number (refuses .why))
+  attributes-refused = rw (← described-refused image id (opens .why) (opens .is)) (refused-number (opens .why))
 
   row-refused : (vbn : ℕ) → IsRefused (extentWords (extentAnswer image id vbn))
-  row-refused vbn = rw (extent-refused image id vbn (refuses .why) (refuses .is)) (refused-number (refuses .why))
+  row-refused vbn = rw (extent-refused image id vbn (opens .why) (opens .is)) (refused-number (opens .why))
 
   extended-refused : (count b h : ℕ) → IsRefused (extendedWords (extendAnswer image id count b h))
   unfolding extendAnswer extended

@@ -1,4 +1,4 @@
--- What an image that opens and is sound gives to those who write to it: the blocks of its files are pairwise different, for a header is a
+-- What an image that opens and is safe gives to those who write to it: the blocks of its files are pairwise different, for a header is a
 -- member of one chain, and files 1 and 2 lie where opening the volume found them.
 use mathlib.Core.Path.{_≡_, refl}
 use mathlib.Core.List.{List}
@@ -12,13 +12,13 @@ use Rattle.volume.proofs.VolumeLaws.{Opens, index-file, opens, storage-size, st
 use Rattle.chains.specs.Chains.{chainOf, fileBlocks}
 use Rattle.chains.proofs.ChainLaws.{flat-end}
 use Rattle.chains.proofs.IndexFile.{file-index}
-use Rattle.sound.specs.Sound.{Covers, Sound}
+use Rattle.sound.specs.Sound.{Covers, Safe}
 use Rattle.sound.specs.Claims.{IsFile, BlocksApart}
 use Rattle.sound.proofs.CoverLaws.{covers-below}
 use Rattle.sound.proofs.ChainLaws.{chains-apart}
 use Rattle.sound.proofs.BlockLaws.{Lies, chain-lies, chain-different}
 
-module _ (image : List ℕ) (s : Sound image) where
+module _ (image : List ℕ) (s : Safe image) where
   -- Block i of a file is covered by a member of its chain.
   pub file-lies : (f : ℕ) → IsFile image f → (i : ℕ) → i < length (fileBlocks image f) → Lies image (chainOf image f) (getD (fileBlocks image f) i 0)
   unfolding fileBlocks chainOf

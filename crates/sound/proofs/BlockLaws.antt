@@ -1,4 +1,4 @@
--- The blocks of a chain of a sound image: each is covered by one place of one header, so they are pairwise different.
+-- The blocks of a chain of a safe image: each is covered by one place of one header, so they are pairwise different.
 use mathlib.Core.Path.{_≡_, refl, sym, ap, _∙_}
 use mathlib.Core.Bool.{true}
 use mathlib.Core.List.{List, _++_}
@@ -13,7 +13,7 @@ use Rattle.volume.specs.Volume.{header, inUse}
 use Rattle.chains.specs.Chains.{chain}
 use Rattle.pointers.specs.Pointers.{flat}
 use Rattle.lists.specs.Counts.{In}
-use Rattle.sound.specs.Sound.{Covers, Sound}
+use Rattle.sound.specs.Sound.{Covers, Safe}
 use Rattle.sound.proofs.MemberLaws.{flat-at, flat-end, flat-more}
 use Rattle.sound.proofs.ChainLaws.{chain-used, chain-apart}
 
@@ -24,7 +24,7 @@ pub record Lies (image l : List ℕ) (j : ℕ) : Type 0 where
   pub place : ℕ
   pub covers : Covers image number place j
 
-module _ (image : List ℕ) (s : Sound image) where
+module _ (image : List ℕ) (s : Safe image) where
   abbrev hdr : ℕ → List ℕ
   hdr = header image
 

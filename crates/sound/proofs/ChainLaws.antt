@@ -1,4 +1,4 @@
--- Chains of a sound image: closed under links forward and backward, and two that meet are one.
+-- Chains of a safe image: closed under links forward and backward, and two that meet are one.
 use mathlib.Core.Path.{_≡_, refl, sym, ap, _∙_}
 use mathlib.Core.Bool.{true}
 use mathlib.Core.Logic.{_⊎_, inl, inr}
@@ -11,11 +11,11 @@ use Rattle.volume.specs.Volume.{header, inUse}
 use Rattle.chains.specs.Chains.{chain, chainOf}
 use Rattle.chains.proofs.NumberLaws.{segment-most}
 use Rattle.lists.specs.Counts.{In}
-use Rattle.sound.specs.Sound.{Sound}
+use Rattle.sound.specs.Sound.{Safe}
 use Rattle.sound.specs.Claims.{IsFile}
 use Rattle.sound.proofs.MemberLaws.{chain-none, chain-cases, chain-head, chain-rest, Prev, chain-prev}
 
-module _ (image : List ℕ) (s : Sound image) where
+module _ (image : List ℕ) (s : Safe image) where
   abbrev Used : ℕ → Type 0
   Used n = inUse image n ≡ true
 
@@ -27,6 +27,10 @@ module _ (image : List ℕ) (s : Sound image) where
 
   abbrev members : ℕ → ℕ → List ℕ
   members f n = chain (header image) f n
+
+  -- A known file is a file.
+  pub known-file : (n : ℕ) → 1 ≤ n → n ≤ 5 → IsFile image n
+  known-file n a b = record { used = s .known n a b .used; first = s .known n a b .first }
 
   -- One header at most links to a number.
   pub link-inj : (a b : ℕ) → Used a → Used b → (efnu b ≡ 0 → ⊥) → efnu a ≡ efnu b → a ≡ b

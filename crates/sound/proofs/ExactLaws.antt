@@ -37,27 +37,30 @@ sound-is image r =
     let l = r .1 .0 in
     let m = r .1 .1 .1 .1 in
     record {
-      known = f .known;
-      slotted = f .slotted;
-      whole = f .whole;
-      link = l .link;
-      first = l .first;
-      later = l .later;
-      once = r .1 .1 .0;
-      passed = r .1 .1 .1 .0;
+      safe = record {
+        known = f .known;
+        slotted = f .slotted;
+        whole = f .whole;
+        link = l .link;
+        first = l .first;
+        later = l .later;
+        once = r .1 .1 .0;
+        passed = r .1 .1 .1 .0;
+      };
       unmapped = m .unmapped;
       mapped = m .mapped;
       beyond = m .beyond;
     }
 
 parts-are : (image : List ℕ) → Sound image → Parts image
-parts-are image s = (
-  record { known = s .known; slotted = s .slotted; whole = s .whole },
-  (
-    record { link = s .link; first = s .first; later = s .later },
-    (s .once, (s .passed, record { unmapped = s .unmapped; mapped = s .mapped; beyond = s .beyond })),
-  ),
-)
+parts-are image sound =
+    let s = sound .safe in (
+      record { known = s .known; slotted = s .slotted; whole = s .whole },
+      (
+        record { link = s .link; first = s .first; later = s .later },
+        (s .once, (s .passed, record { unmapped = sound .unmapped; mapped = sound .mapped; beyond = sound .beyond })),
+      ),
+    )
 
 -- Areas that are long enough leave only the opening to be passed.
 ready-judges : (image : List ℕ) (b h : ℕ) → blocks image ≤ b → fmax image ≤ h → Judges (ready image b h) (openVolume image ≡ Passed)

@@ -13,7 +13,7 @@ use Rattle.chains.specs.Chains.{fileBlocks}
 use Rattle.verdict.specs.declared.Judged.{Judged}
 use Rattle.verdict.specs.declared.Judged.the-variants.{Done, Refused}
 use Rattle.verdict.specs.Verdict.{claimed, free, verdictAnswer}
-use Rattle.sound.specs.Sound.{BlockOf, Sound}
+use Rattle.sound.specs.Sound.{BlockOf, Safe, Sound}
 
 -- The verdict answers DONE.
 abbrev pub isDone : Judged → Bool
@@ -38,8 +38,9 @@ pub record IsFile (image : List ℕ) (n : ℕ) : Type 0 where
   pub used : inUse image n ≡ true
   pub first : segment (header image n) ≡ 0
 
--- What an image that opens and is sound gives to those who write to it: all blocks of all files are pairwise different, and boot block, home, index
--- map and slots are blocks of file 1, the storage map is blocks of file 2, and the home positions passed over are blocks of file 3.
+-- What an image that opens and is safe gives to those who write to it, whatever its storage map says: all blocks of all files are pairwise different,
+-- and boot block, home, index map and slots are blocks of file 1, the storage map is blocks of file 2, and the home positions passed over are blocks of
+-- file 3.
 pub record Apart (image : List ℕ) : Type 0 where
   pub different : (f g i j : ℕ) → IsFile image f → IsFile image g → i < length (fileBlocks image f) → j < length (fileBlocks image g)
       → getD (fileBlocks image f) i 0 ≡ getD (fileBlocks image g) j 0 → (f ≡ g) × (i ≡ j)
@@ -54,4 +55,4 @@ pub record Apart (image : List ℕ) : Type 0 where
   pub passed : (i : ℕ) → i < homeIndex image → BlockOf image 3 (position i)
 
 abbrev pub BlocksApart : Type 0
-BlocksApart = (image : List ℕ) → openVolume image ≡ Passed → Sound image → Apart image
+BlocksApart = (image : List ℕ) → openVolume image ≡ Passed → Safe image → Apart image

@@ -53,7 +53,9 @@ pub record BlockOf (image : List ℕ) (n j : ℕ) : Type 0 where
   pub inside : place < length (fileBlocks image n)
   pub here : getD (fileBlocks image n) place 0 ≡ j
 
-pub record Sound (image : List ℕ) : Type 0 where
+-- All of sound but the storage map: a volume of which the map alone may be wrong, as after a call that was cut and before a salvage. 02, 11/14: "a salvage
+-- tool that judges first and, where all but MAP passes, rewrites the map bits".
+pub record Safe (image : List ℕ) : Type 0 where
   -- "its five known files are in use with their own numbers as sequence and segment 0"
   pub known : (n : ℕ) → 1 ≤ n → n ≤ 5 → Known image n
   -- "every header in use has a slot and is whole"
@@ -69,6 +71,9 @@ pub record Sound (image : List ℕ) : Type 0 where
   -- "home positions passed over belong to the bad block file". 01, Demand 3: "A home position passed over is one below the home; it belongs to the bad
   -- block file where a header of file 3's chain covers it."
   pub passed : (i : ℕ) → i < homeIndex image → BlockOf image 3 (position i)
+
+pub record Sound (image : List ℕ) : Type 0 where
+  pub safe : Safe image
   -- "the storage map marks free exactly the unmapped blocks". 01, Demand 3: "its bits below N are set exactly if not covered, and those from N on are
   -- clear".
   pub unmapped : (j : ℕ) → j < blocks image → (Mapped image j → ⊥) → bitAt (storageMap image) j ≡ 1

@@ -11,7 +11,7 @@ pub fn claimed_and_free_add_up()
     ensures { λ _. ⌜ CountsAdd ⌝ }
 {}
 
-// All blocks of all files of an image that opens and is sound are apart.
+// All blocks of all files of an image that opens and is safe are apart. A sound image is safe.
 pub fn blocks_are_apart()
     ensures { λ _. ⌜ BlocksApart ⌝ }
 {}

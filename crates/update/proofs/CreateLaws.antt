@@ -19,19 +19,19 @@ use Rattle.lists.specs.Counts.{In}
 use Rattle.lists.proofs.CountLaws.{count-none, count-skip}
 use Rattle.slots.proofs.SlotLaws.{in-use-bit, used-range}
 use Rattle.sound.proofs.MemberLaws.{in-cases, in-here}
-use Rattle.sound.proofs.ChainLaws.{member-used}
+use Rattle.sound.proofs.ChainLaws.{known-file, member-used}
 use Rattle.fresh_header.proofs.FreshLaws.{Fresh}
 use Rattle.image.specs.Stores.{putBlock}
 use Rattle.update.specs.Writes.{usedBit}
 use Rattle.update.specs.Create.{indexBit, withNumber}
-use Rattle.update.proofs.Effects.{Good, Written, Stays, Created}
+use Rattle.update.proofs.Effects.{Usable, Written, Stays, Created}
 use Rattle.update.proofs.FrameLaws.{slot-clear, maps-apart, numbers-fit, blocks-same, ibsz-same, iblb-same, fmax-same, slot-same, base-same, header-same, fixed-after}
 use Rattle.image.proofs.WriteLaws.{keeps-region, putBlock-block, putBlock-keeps, putBlock-region, putBlock-length, putBlock-bytes, putMapBits-keeps, putMapBits-bytes, putMapBits-bit, putMapBits-rest}
 use Rattle.update.proofs.SameLaws.{used-same}
 
--- On a good image, number n has a slot and is not in use, and h is a fresh header of that number with sequence q.
+-- On a usable image, number n has a slot and is not in use, and h is a fresh header of that number with sequence q.
 pub record Creating (image : List ℕ) (n q : ℕ) (h : List ℕ) : Type 0 where
-  pub good : Good image
+  pub usable : Usable image
   pub low : 6 ≤ n
   pub has : n ≤ slots image
   pub high : n ≤ fmax image
@@ -47,20 +47,20 @@ module _ {image : List ℕ} {n q : ℕ} {h : List ℕ} (c : Creating image n q h
   z = withNumber image n h
 
   room : 512 * (slot image n + 1) ≤ length image
-  room = omega (arith, c .good .opens .size, slot-below (c .good .opens) n (omega (arith, c .low)) (c .has))
+  room = omega (arith, c .usable .opens .size, slot-below (c .usable .opens) n (omega (arith, c .low)) (c .has))
 
   map-room : 512 * (iblb image + ibsz image) ≤ length a
-  map-room = omega (arith, c .good .opens .size, c .good .opens .fits, putBlock-length image (slot image n) h (c .fresh .long) room)
+  map-room = omega (arith, c .usable .opens .size, c .usable .opens .fits, putBlock-length image (slot image n) h (c .fresh .long) room)
 
   a-bytes : Bytes a
-  a-bytes = putBlock-bytes image (slot image n) h (c .fresh .long) room (c .good .bytes) (c .fresh .bytes)
+  a-bytes = putBlock-bytes image (slot image n) h (c .fresh .long) room (c .usable .bytes) (c .fresh .bytes)
 
   only : (j : ℕ) → In j (indexBit n ∷ []) → j ≡ indexBit n
   only j m = elim (in-cases j (indexBit n) [] m) [ inl e ↦ e | inr i ↦ absurd (omega (arith, count-none j)) ]
 
   below : indexBit n < 4096 * ibsz image
   unfolding indexBit
-  below = omega (arith, c .low, c .high, numbers-fit image (c .good))
+  below = omega (arith, c .low, c .high, numbers-fit image (c .usable))
 
   small : (j : ℕ) → In j (indexBit n ∷ []) → j < 4096 * ibsz image
   small j m = omega (arith, only j m, below)
@@ -94,12 +94,12 @@ module _ {image : List ℕ} {n q : ℕ} {h : List ℕ} (c : Creating image n q h
 
   index-unused : (k : ℕ) → In k (chainOf image 1) → k ≡ n → ⊥
   index-unused k m =
-      let known = c .good .sound .known 1 (omega arith) (omega arith) in
-      used-apart k (member-used image (c .good .sound) 1 (record { used = known .used; first = known .first }) k m)
+      let s = c .usable .safe in
+      used-apart k (member-used image s 1 (known-file image s 1 (omega arith) (omega arith)) k m)
 
   pub create-written : Written image z (λ k. k ≡ n)
   create-written = record {
-    good = c .good;
+    usable = c .usable;
     known = λ k e. rw e (c .low, c .has);
     apart = λ k e m. index-unused k m e;
     keeps = keeps-weaken (λ k clear. (clear .slots n refl, λ e. clear .index (omega arith) (omega (arith, below)))) create-keeps;
@@ -114,7 +114,7 @@ module _ {image : List ℕ} {n q : ℕ} {h : List ℕ} (c : Creating image n q h
   unfolding indexMap
   index-before =
       putBlock-region image (slot image n) h (c .fresh .long) room (iblb image) (ibsz image)
-      (slot-clear image (c .good) n (omega (arith, c .low)) (c .has) .index)
+      (slot-clear image (c .usable) n (omega (arith, c .low)) (c .has) .index)
 
   bit-set : bitAt (indexMap z) (n - 1) ≡ 1
   unfolding withNumber indexBit
@@ -139,7 +139,7 @@ module _ {image : List ℕ} {n q : ℕ} {h : List ℕ} (c : Creating image n q h
   unfolding header
   create-header =
       rw (slot-same create-written create-stays n)
-      (z-keeps .same (slot image n) (λ e. slot-clear image (c .good) n (omega (arith, c .low)) (c .has) .index (omega arith) (omega (arith, below)))
+      (z-keeps .same (slot image n) (λ e. slot-clear image (c .usable) n (omega (arith, c .low)) (c .has) .index (omega arith) (omega (arith, below)))
       ∙ putBlock-block image (slot image n) h (c .fresh .long) room)
 
   create-is : inUse z n ≡ true
@@ -152,25 +152,23 @@ module _ {image : List ℕ} {n q : ℕ} {h : List ℕ} (c : Creating image n q h
       ap₂ (λ (b m : ℕ). region z b (mapBlocks m)) (base-same create-written create-stays) (blocks-same create-written)
       ∙ keeps-region create-keeps (base image) (mapBlocks (blocks image))
       (λ i low high. (
-        λ e. slot-clear image (c .good) n (omega (arith, c .low)) (c .has) .storage (omega arith) (omega arith),
-        λ e. maps-apart image (c .good) i low high (omega arith) (omega (arith, below)),
+        λ e. slot-clear image (c .usable) n (omega (arith, c .low)) (c .has) .storage (omega arith) (omega arith),
+        λ e. maps-apart image (c .usable) i low high (omega arith) (omega (arith, below)),
       ))
 
   pub create-effect : Created image z n
   unfolding faultOf
   create-effect =
       let w = create-written in
-      let known = c .good .sound .known 3 (omega arith) (omega arith) in
+      let s = c .usable .safe in
       record {
-        fixed =
-            fixed-after w create-stays
-            (λ x m. used-apart x (member-used image (c .good .sound) 3 (record { used = known .used; first = known .first }) x m));
+        fixed = fixed-after w create-stays (λ x m. used-apart x (member-used image s 3 (known-file image s 3 (omega arith) (omega arith)) x m));
         low = c .low;
         has = c .has;
         was = c .was;
         is = create-is;
         others = create-used;
-        headers = λ k u. header-same w create-stays k (used-range image k u .0) (c .good .sound .slotted k u) (used-apart k u);
+        headers = λ k u. header-same w create-stays k (used-range image k u .0) (s .slotted k u) (used-apart k u);
         whole = rw (blocks-same w, create-header) (c .fresh .whole);
         empty = rw create-header (c .fresh .empty);
         unlinked = rw create-header (c .fresh .unlinked);

@@ -1,5 +1,5 @@
--- What create does keeps an image sound: its header covers nothing, so every place after was a place before, and nothing links to a number
--- that was not in use.
+-- What create does keeps an image safe, and a sound one sound: its header covers nothing, so every place after was a place before, and nothing links
+-- to a number that was not in use.
 use mathlib.Core.Path.{_≡_, refl, sym, ap, _∙_}
 use mathlib.Core.Bool.{true, true≢false}
 use mathlib.Core.Logic.{_⊎_, inl, inr}
@@ -12,12 +12,12 @@ use Rattle.header.specs.Fields.{segment, mEfnu}
 use Rattle.home.specs.Home.{blocks}
 use Rattle.volume.specs.Volume.{slots, header, faultOf, inUse, storageMap}
 use Rattle.slots.proofs.SlotLaws.{used-range}
-use Rattle.sound.specs.Sound.{GoodLink, OneLink, Covers, Mapped, Sound}
+use Rattle.sound.specs.Sound.{GoodLink, OneLink, Covers, Mapped, Safe, Sound}
 use Rattle.sound.proofs.MapLaws.{bits-enough}
 use Rattle.update.proofs.Effects.{Created}
 use Rattle.update.proofs.SameLaws.{Alike, alike, fault-same, covers-same, known-same, link-same}
 
-module _ (image image′ : List ℕ) (n : ℕ) (s : Sound image) (c : Created image image′ n) where
+module _ (image image′ : List ℕ) (n : ℕ) (s : Safe image) (c : Created image image′ n) where
   abbrev Used : ℕ → Type 0
   Used k = inUse image k ≡ true
 
@@ -99,7 +99,7 @@ module _ (image image′ : List ℕ) (n : ℕ) (s : Sound image) (c : Created im
   bit : (j : ℕ) → j < blocks image → bitAt (storageMap image′) j ≡ bitAt (storageMap image) j
   bit j h = c .bits j (omega (arith, bits-enough image))
 
-  create-keeps : Sound image′
+  create-keeps : Safe image′
   create-keeps = record {
     known = λ k a b. let q = s .known k a b in known-same image image′ k (stays k (q .used)) (same k (q .used)) q;
     slotted = λ k u. rw (c .fixed .slots) (by (λ (x : ℕ). x ≤ slots image) k u (c .has) (s .slotted k));
@@ -112,10 +112,18 @@ module _ (image image′ : List ℕ) (n : ℕ) (s : Sound image) (c : Created im
         by (λ (x : ℕ). (segment (header image′ x) ≡ 0 → ⊥) → OneLink image′ x) t u (λ z. absurd (z (c .first))) (λ o z. later t o u z) ne;
     once = λ k p m q j v w. s .once k p m q j (covers-was k p j v) (covers-was m q j w);
     passed = c .fixed .passed;
-    unmapped = λ j h free. let l : j < blocks image = rw (c .fixed .blocks) at h in bit j l ∙ s .unmapped j l (λ m. free (mapped-stays j m));
-    mapped = λ j h m. let l : j < blocks image = rw (c .fixed .blocks) at h in bit j l ∙ s .mapped j l (mapped-was j m);
-    beyond = λ j h b. c .bits j (rw (c .fixed .blocks) at b) ∙ s .beyond j (rw (c .fixed .blocks) at h) (rw (c .fixed .blocks) at b);
   }
 
+  map-keeps : Sound image → Sound image′
+  map-keeps m = record {
+    safe = create-keeps;
+    unmapped = λ j h free. let l : j < blocks image = rw (c .fixed .blocks) at h in bit j l ∙ m .unmapped j l (λ v. free (mapped-stays j v));
+    mapped = λ j h v. let l : j < blocks image = rw (c .fixed .blocks) at h in bit j l ∙ m .mapped j l (mapped-was j v);
+    beyond = λ j h b. c .bits j (rw (c .fixed .blocks) at b) ∙ m .beyond j (rw (c .fixed .blocks) at h) (rw (c .fixed .blocks) at b);
+  }
+
+pub create-safe : (image image′ : List ℕ) (n : ℕ) → Safe image → Created image image′ n → Safe image′
+create-safe = create-keeps
+
 pub create-sound : (image image′ : List ℕ) (n : ℕ) → Sound image → Created image image′ n → Sound image′
-create-sound = create-keeps
+create-sound image image′ n s c = map-keeps image image′ n (s .safe) c s

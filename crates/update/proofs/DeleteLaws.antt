@@ -21,14 +21,14 @@ use Rattle.lists.proofs.CountLaws.{count-none, count-find}
 use Rattle.slots.proofs.SlotLaws.{used-range}
 use Rattle.sound.specs.Claims.{IsFile}
 use Rattle.sound.proofs.MemberLaws.{in-cases, in-here, in-tail}
-use Rattle.sound.proofs.ChainLaws.{member-used, only-head, chains-apart}
+use Rattle.sound.proofs.ChainLaws.{known-file, member-used, only-head, chains-apart}
 use Rattle.sound.proofs.ApartLaws.{file-inside}
 use Rattle.header_edit.specs.Cleared.{clearedSlot}
 use Rattle.image.specs.Stores.{putMapBits}
 use Rattle.update.specs.Writes.{unusedBit, freeBit}
 use Rattle.update.specs.Create.{indexBit}
 use Rattle.update.specs.Delete.{indexBits, clearSlots, withoutNumbers}
-use Rattle.update.proofs.Effects.{Clear, Good, Written, Stays, Deleted}
+use Rattle.update.proofs.Effects.{Clear, Usable, Written, Stays, Deleted}
 use Rattle.update.proofs.FrameLaws.{slot-clear, maps-apart, numbers-fit, blocks-same, ibsz-same, iblb-same, fmax-same, slot-same, base-same, header-same, fixed-after}
 use Rattle.image.proofs.WriteLaws.{keeps-region, putMapBits-outside, putMapBits-length, putMapBits-keeps, putMapBits-bytes, putMapBits-bit, putMapBits-rest}
 use Rattle.update.proofs.SameLaws.{used-same}
@@ -83,8 +83,8 @@ slotsOf-from image (k ∷ ns) x m = go (slotsOf-from image ns x) (in-cases x (sl
     go rest (inl e) = from-here (slot image) k ns x e
     go rest (inr q) = from-tail (slot image) k ns x (rest q)
 
--- Both maps of a good image, written in any bits, and slots.
-module _ {image : List ℕ} (g : Good image) where
+-- Both maps of a usable image, written in any bits, and slots.
+module _ {image : List ℕ} (g : Usable image) where
   pub index-fits : 512 * (iblb image + ibsz image) ≤ length image
   index-fits = omega (arith, g .opens .size, g .opens .fits)
 
@@ -130,9 +130,9 @@ module _ {image : List ℕ} (g : Good image) where
           let s = slotted (r .from) (r .inside) in
           slot-clear image g (r .from) (s .0) (s .1) .storage (omega (arith, r .here)) (omega (arith, r .here)))
 
--- File n of a good image, none of the known files, is deleted.
+-- File n of a usable image, none of the known files, is deleted.
 pub record Deleting (image : List ℕ) (n : ℕ) : Type 0 where
-  pub good : Good image
+  pub usable : Usable image
   pub file : IsFile image n
   pub high : 6 ≤ n
 
@@ -143,8 +143,8 @@ pub record Untouched (image : List ℕ) (n i : ℕ) : Type 0 where
   pub storage : (j : ℕ) → In j (fileBlocks image n) → i ≡ base image + j / 4096 → ⊥
 
 module _ {image : List ℕ} {n : ℕ} (d : Deleting image n) where
-  abbrev g : Good image
-  g = d .good
+  abbrev g : Usable image
+  g = d .usable
 
   abbrev members : List ℕ
   members = chainOf image n
@@ -164,16 +164,16 @@ module _ {image : List ℕ} {n : ℕ} (d : Deleting image n) where
 
   -- Members of the chain are in use, are no known files, and have slots.
   pub delete-used : (k : ℕ) → Member k → inUse image k ≡ true
-  delete-used k m = member-used image (g .sound) n (d .file) k m
+  delete-used k m = member-used image (g .safe) n (d .file) k m
 
   pub delete-known : (k : ℕ) → Member k → (6 ≤ k) × (k ≤ slots image)
-  delete-known k m = (go (decLt 5 k), g .sound .slotted k (delete-used k m))
+  delete-known k m = (go (decLt 5 k), g .safe .slotted k (delete-used k m))
     where
       go : Dec (5 < k) → 6 ≤ k
       go (yes h) = h
       go (no h) =
           let r = used-range image k (delete-used k m) in
-          let e : k ≡ n = only-head image (g .sound) n (d .file) k (g .sound .known k (r .0) (omega arith) .first) m in
+          let e : k ≡ n = only-head image (g .safe) n (d .file) k (g .safe .known k (r .0) (omega arith) .first) m in
           absurd (omega (arith, d .high))
 
   slotted : (k : ℕ) → Member k → (1 ≤ k) × (k ≤ slots image)
@@ -181,23 +181,19 @@ module _ {image : List ℕ} {n : ℕ} (d : Deleting image n) where
 
   -- No other file has a member in the chain, and so file 3 has none.
   pub delete-apart : (f : ℕ) → IsFile image f → (f ≡ n → ⊥) → (x : ℕ) → In x (chainOf image f) → Member x → ⊥
-  delete-apart f file ne x m m′ = ne (chains-apart image (g .sound) f n file (d .file) x m m′)
+  delete-apart f file ne x m m′ = ne (chains-apart image (g .safe) f n file (d .file) x m m′)
 
   pub delete-three : (x : ℕ) → In x (chainOf image 3) → Member x → ⊥
-  delete-three =
-      let k = g .sound .known 3 (omega arith) (omega arith) in
-      delete-apart 3 (record { used = k .used; first = k .first }) (λ e. omega (arith, d .high))
+  delete-three = delete-apart 3 (known-file image (g .safe) 3 (omega arith) (omega arith)) (λ e. omega (arith, d .high))
 
   pub delete-one : (x : ℕ) → In x (chainOf image 1) → Member x → ⊥
-  delete-one =
-      let k = g .sound .known 1 (omega arith) (omega arith) in
-      delete-apart 1 (record { used = k .used; first = k .first }) (λ e. omega (arith, d .high))
+  delete-one = delete-apart 1 (known-file image (g .safe) 1 (omega arith) (omega arith)) (λ e. omega (arith, d .high))
 
   -- The file's blocks lie on the volume, and so the storage map has their bits; the index map has those of the members.
   pub delete-below : (j : ℕ) → In j (fileBlocks image n) → j < blocks image
   delete-below j m =
       let r = count-find j (fileBlocks image n) m in
-      omega (arith, r .here, file-inside image (g .sound) n (r .at) (d .file) (r .inside))
+      omega (arith, r .here, file-inside image (g .safe) n (r .at) (d .file) (r .inside))
 
   index-small : (j : ℕ) → In j (indexBits members) → j < 4096 * ibsz image
   unfolding indexBit
@@ -253,7 +249,7 @@ module _ {image : List ℕ} {n : ℕ} (d : Deleting image n) where
   }
 
   pub delete-written : Written image z Member
-  delete-written = record { good = g; known = delete-known; apart = λ k m i. delete-one k i m; keeps = keeps-weaken clear-untouched delete-others }
+  delete-written = record { usable = g; known = delete-known; apart = λ k m i. delete-one k i m; keeps = keeps-weaken clear-untouched delete-others }
 
   pub delete-length : length z ≡ length image
   delete-length = delete-others .len
@@ -346,7 +342,7 @@ module _ {image : List ℕ} {n : ℕ} (d : Deleting image n) where
     fixed = fixed-after delete-written delete-stays delete-three;
     gone = gone;
     used = others;
-    headers = λ k u none. header-same delete-written delete-stays k (used-range image k u .0) (g .sound .slotted k u) (λ m. omega arith);
+    headers = λ k u none. header-same delete-written delete-stays k (used-range image k u .0) (g .safe .slotted k u) (λ m. omega arith);
     now = λ j m.
         ap (λ (r : List ℕ). bitAt r j) storage-after
         ∙ putMapBits-bit w (base image) (mapBlocks (blocks image)) (flat (header image) members) freeBit w-fits (omega arith) w-bytes storage-small j m;

@@ -1,5 +1,5 @@
--- What delete does keeps an image sound: a place after is a place before of a number outside the chain, no link leads into the chain or out of it,
--- and no block of the chain is covered by a number outside it.
+-- What delete does keeps an image safe, and a sound one sound: a place after is a place before of a number outside the chain, no link leads into the
+-- chain or out of it, and no block of the chain is covered by a number outside it.
 use mathlib.Core.Path.{_≡_, refl, sym, ap, _∙_}
 use mathlib.Core.Bool.{true, true≢false}
 use mathlib.Core.Logic.{_⊎_, inl, inr}
@@ -19,7 +19,7 @@ use Rattle.pointers.specs.Pointers.{flat}
 use Rattle.lists.specs.Counts.{count, In}
 use Rattle.lists.proofs.CountLaws.{count-none, count-append, count-at, count-find}
 use Rattle.slots.proofs.SlotLaws.{used-range}
-use Rattle.sound.specs.Sound.{GoodLink, OneLink, Covers, Mapped, Sound}
+use Rattle.sound.specs.Sound.{GoodLink, OneLink, Covers, Mapped, Safe, Sound}
 use Rattle.sound.specs.Claims.{IsFile}
 use Rattle.sound.proofs.MapLaws.{bits-enough}
 use Rattle.sound.proofs.CoverLaws.{covers-below}
@@ -46,7 +46,7 @@ flat-has hdr (x ∷ l) k p m h = go (flat-has hdr l k p) (in-cases k x l m)
     go rest (inl e) = omega (arith, count-append j (blocksOf (hdr x)) (flat hdr l), count-at (blocksOf (hdr k)) p h, ap (λ (y : ℕ). count j (blocksOf (hdr y))) e)
     go rest (inr r) = omega (arith, count-append j (blocksOf (hdr x)) (flat hdr l), rest r h)
 
-module _ (image image′ : List ℕ) (n : ℕ) (bytes : Bytes image) (s : Sound image) (file : IsFile image n) (low : 6 ≤ n) (d : Deleted image image′ (chainOf image n)) where
+module _ (image image′ : List ℕ) (n : ℕ) (bytes : Bytes image) (s : Safe image) (file : IsFile image n) (low : 6 ≤ n) (d : Deleted image image′ (chainOf image n)) where
   abbrev Used : ℕ → Type 0
   Used k = inUse image k ≡ true
 
@@ -171,21 +171,7 @@ module _ (image image′ : List ℕ) (n : ℕ) (bytes : Bytes image) (s : Sound 
   mapped-was : (j : ℕ) → Mapped image′ j → Mapped image j
   mapped-was j v = record { number = v .number; place = v .place; covers = covers-was (v .number) (v .place) j (v .covers) }
 
-  unmapped : (j : ℕ) → j < blocks image → (Mapped image′ j → ⊥) → In j own ⊎ (count j own ≡ 0) → bitAt (storageMap image′) j ≡ 1
-  unmapped j h free (inl m) = d .now j m
-  unmapped j h free (inr z) = d .rest j (omega (arith, bits-enough image)) z ∙ s .unmapped j h (λ m. free (mapped-stays j z m))
-
-  mapped : (j : ℕ) → j < blocks image → Mapped image′ j → In j own ⊎ (count j own ≡ 0) → bitAt (storageMap image′) j ≡ 0
-  mapped j h v (inl m) = absurd (own-freed j m v)
-  mapped j h v (inr z) = d .rest j (omega (arith, bits-enough image)) z ∙ s .mapped j h (mapped-was j v)
-
-  beyond : (j : ℕ) → blocks image ≤ j → j < mapBits (blocks image) → In j own ⊎ (count j own ≡ 0) → bitAt (storageMap image′) j ≡ 0
-  beyond j h b (inl m) =
-      let r = own-lies j m in
-      absurd (omega (arith, covers-below image (s .whole) (r .number) (r .place) j (r .covers)))
-  beyond j h b (inr z) = d .rest j b z ∙ s .beyond j h b
-
-  delete-keeps : Sound image′
+  delete-keeps : Safe image′
   delete-keeps = record {
     known = λ k a b. let o = known-outside k a b in known-same image image′ k (stays k o) (same k o) (s .known k a b);
     slotted = λ k u. rw (d .fixed .slots) (s .slotted k (was k u .0));
@@ -195,10 +181,34 @@ module _ (image image′ : List ℕ) (n : ℕ) (bytes : Bytes image) (s : Sound 
     later = λ t u ne. later t (was t u) ne;
     once = λ k p m q j v w. s .once k p m q j (covers-was k p j v) (covers-was m q j w);
     passed = d .fixed .passed;
-    unmapped = λ j h free. unmapped j (rw (d .fixed .blocks) at h) free (in-or-not j own);
-    mapped = λ j h v. mapped j (rw (d .fixed .blocks) at h) v (in-or-not j own);
-    beyond = λ j h b. beyond j (rw (d .fixed .blocks) at h) (rw (d .fixed .blocks) at b) (in-or-not j own);
   }
 
+  -- The storage map, of a sound image.
+  module _ (sound : Sound image) where
+    unmapped : (j : ℕ) → j < blocks image → (Mapped image′ j → ⊥) → In j own ⊎ (count j own ≡ 0) → bitAt (storageMap image′) j ≡ 1
+    unmapped j h free (inl m) = d .now j m
+    unmapped j h free (inr z) = d .rest j (omega (arith, bits-enough image)) z ∙ sound .unmapped j h (λ m. free (mapped-stays j z m))
+
+    mapped : (j : ℕ) → j < blocks image → Mapped image′ j → In j own ⊎ (count j own ≡ 0) → bitAt (storageMap image′) j ≡ 0
+    mapped j h v (inl m) = absurd (own-freed j m v)
+    mapped j h v (inr z) = d .rest j (omega (arith, bits-enough image)) z ∙ sound .mapped j h (mapped-was j v)
+
+    beyond : (j : ℕ) → blocks image ≤ j → j < mapBits (blocks image) → In j own ⊎ (count j own ≡ 0) → bitAt (storageMap image′) j ≡ 0
+    beyond j h b (inl m) =
+        let r = own-lies j m in
+        absurd (omega (arith, covers-below image (s .whole) (r .number) (r .place) j (r .covers)))
+    beyond j h b (inr z) = d .rest j b z ∙ sound .beyond j h b
+
+    map-keeps : Sound image′
+    map-keeps = record {
+      safe = delete-keeps;
+      unmapped = λ j h free. unmapped j (rw (d .fixed .blocks) at h) free (in-or-not j own);
+      mapped = λ j h v. mapped j (rw (d .fixed .blocks) at h) v (in-or-not j own);
+      beyond = λ j h b. beyond j (rw (d .fixed .blocks) at h) (rw (d .fixed .blocks) at b) (in-or-not j own);
+    }
+
+pub delete-safe : (image image′ : List ℕ) (n : ℕ) → Bytes image → Safe image → IsFile image n → 6 ≤ n → Deleted image image′ (chainOf image n) → Safe image′
+delete-safe = delete-keeps
+
 pub delete-sound : (image image′ : List ℕ) (n : ℕ) → Bytes image → Sound image → IsFile image n → 6 ≤ n → Deleted image image′ (chainOf image n) → Sound image′
-delete-sound = delete-keeps
+delete-sound image image′ n bytes s file low d = map-keeps image image′ n bytes (s .safe) file low d s

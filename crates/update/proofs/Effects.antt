@@ -16,7 +16,7 @@ use Rattle.volume.proofs.VolumeLaws.{Opens}
 use Rattle.chains.specs.Chains.{chainOf, fileBlocks}
 use Rattle.pointers.specs.Pointers.{flat}
 use Rattle.lists.specs.Counts.{count, In}
-use Rattle.sound.specs.Sound.{BlockOf, Sound}
+use Rattle.sound.specs.Sound.{BlockOf, Safe, Sound}
 
 -- Block k is no slot of a number of S, none of the index map and none of the storage map: what every writer that writes the slots of S leaves as it was.
 pub record Clear (image : List ℕ) (S : ℕ → Type 0) (k : ℕ) : Type 0 where
@@ -24,16 +24,25 @@ pub record Clear (image : List ℕ) (S : ℕ → Type 0) (k : ℕ) : Type 0 wher
   pub index : iblb image ≤ k → k < iblb image + ibsz image → ⊥
   pub storage : base image ≤ k → k < base image + mapBlocks (blocks image) → ⊥
 
+-- An image of bytes that opens and is safe, whatever its storage map says.
+pub record Usable (image : List ℕ) : Type 0 where
+  pub bytes : Bytes image
+  pub opens : Opens image
+  pub safe : Safe image
+
 -- An image of bytes that opens and is sound.
 pub record Good (image : List ℕ) : Type 0 where
   pub bytes : Bytes image
   pub opens : Opens image
   pub sound : Sound image
 
--- A good image is written only in slots of numbers of S, in the index map and in the storage map. S has no known file, only numbers that have a slot,
+pub good-usable : {image : List ℕ} → Good image → Usable image
+good-usable g = record { bytes = g .bytes; opens = g .opens; safe = g .sound .safe }
+
+-- A usable image is written only in slots of numbers of S, in the index map and in the storage map. S has no known file, only numbers that have a slot,
 -- and none of the index file's.
 pub record Written (image image′ : List ℕ) (S : ℕ → Type 0) : Type 0 where
-  pub good : Good image
+  pub usable : Usable image
   pub known : (n : ℕ) → S n → (6 ≤ n) × (n ≤ slots image)
   pub apart : (n : ℕ) → S n → In n (chainOf image 1) → ⊥
   pub keeps : Keeps (Clear image S) image image′

@@ -28,14 +28,14 @@ use Rattle.lists.proofs.CountLaws.{count-append, count-at, Found, count-find, c
 use Rattle.slots.proofs.SlotLaws.{used-range}
 use Rattle.sound.specs.Sound.{BlockOf}
 use Rattle.sound.proofs.MemberLaws.{in-here, in-tail}
-use Rattle.sound.proofs.ChainLaws.{member-used}
+use Rattle.sound.proofs.ChainLaws.{known-file, member-used}
 use Rattle.header_edit.specs.Extended.{extendedHeader}
 use Rattle.header_edit.proofs.ExtendedLaws.{Extends, extends-is}
 use Rattle.runs.specs.Runs.{isFree, isRun, starts, lowestStart}
 use Rattle.image.specs.Stores.{putMapBits}
 use Rattle.update.specs.Writes.{takenBit}
 use Rattle.update.specs.Extend.{isCount, hasRoom, runStart, hasRun, withBlocks}
-use Rattle.update.proofs.Effects.{Good, Written, Stays, Extended}
+use Rattle.update.proofs.Effects.{Usable, Written, Stays, Extended}
 use Rattle.update.proofs.ChainSame.{chain-links}
 use Rattle.update.proofs.FrameLaws.{slot-clear, maps-apart, blocks-same, homeIndex-same, ibsz-same, iblb-same, fmax-same, slots-same, slot-same, base-same, header-same}
 use Rattle.image.proofs.WriteLaws.{keeps-region, putBlock-block, putBlock-keeps, putBlock-region, putBlock-bytes, putMapBits-keeps, putMapBits-length, putMapBits-bytes, putMapBits-bit, putMapBits-rest}
@@ -81,9 +81,9 @@ flat-more hdr hdr′ j (n ∷ l) more =
       flat-more hdr hdr′ j l (λ k m. more k (in-tail k n l m)),
     )
 
--- On a good image, the header of number n, which is in use, has room for a pointer, and the c blocks from LBN s on are free.
+-- On a usable image, the header of number n, which is in use, has room for a pointer, and the c blocks from LBN s on are free.
 pub record Extending (image : List ℕ) (n s c : ℕ) : Type 0 where
-  pub good : Good image
+  pub usable : Usable image
   pub low : 6 ≤ n
   pub used : inUse image n ≡ true
   pub apart : In n (chainOf image 1) → ⊥
@@ -104,16 +104,16 @@ module _ {image : List ℕ} {n s c : ℕ} (x : Extending image n s c) where
   z = withBlocks image n s c
 
   has : n ≤ slots image
-  has = x .good .sound .slotted n (x .used)
+  has = x .usable .safe .slotted n (x .used)
 
   -- The new header is the old one with the pointer more.
   pub extends : Extends (blocks image) n s c (header image n) h
   unfolding header faultOf hasRoom
   extends =
-      extends-is (blocks image) n s c (header image n) (header-length (x .good .opens) n (omega (arith, x .low)) has)
-      (block-bytes image (slot image n) (x .good .bytes)) (x .good .sound .whole n (x .used))
+      extends-is (blocks image) n s c (header image n) (header-length (x .usable .opens) n (omega (arith, x .low)) has)
+      (block-bytes image (slot image n) (x .usable .bytes)) (x .usable .safe .whole n (x .used))
       (leb-true (mUse (header image n) + 2) (mMax (header image n)) (x .room))
-      (count-range c (x .counted) .0) (count-range c (x .counted) .1) (x .fits) (x .good .opens .most)
+      (count-range c (x .counted) .0) (count-range c (x .counted) .1) (x .fits) (x .usable .opens .most)
 
   in-run : (j : ℕ) → In j (numbersFrom s c) → (s ≤ j) × (j < s + c)
   in-run j m = go (decLt j s) (decLt j (s + c))
@@ -128,19 +128,19 @@ module _ {image : List ℕ} {n s c : ℕ} (x : Extending image n s c) where
   small j l = omega (arith, x .fits)
 
   map-room : 512 * (base image + mapBlocks (blocks image)) ≤ length image
-  map-room = omega (arith, x .good .opens .size, base-fits (x .good .opens))
+  map-room = omega (arith, x .usable .opens .size, base-fits (x .usable .opens))
 
   a-bytes : Bytes a
   a-bytes =
-      putMapBits-bytes image (base image) (mapBlocks (blocks image)) (numbersFrom s c) takenBit map-room (omega arith) (x .good .bytes)
+      putMapBits-bytes image (base image) (mapBlocks (blocks image)) (numbersFrom s c) takenBit map-room (omega arith) (x .usable .bytes)
       (λ j m. small j (in-run j m .1))
 
   slot-room : 512 * (slot image n + 1) ≤ length a
   slot-room =
       omega (
         arith,
-        x .good .opens .size,
-        slot-below (x .good .opens) n (omega (arith, x .low)) has,
+        x .usable .opens .size,
+        slot-below (x .usable .opens) n (omega (arith, x .low)) has,
         putMapBits-length image (base image) (mapBlocks (blocks image)) (numbersFrom s c) takenBit map-room,
       )
 
@@ -169,7 +169,7 @@ module _ {image : List ℕ} {n s c : ℕ} (x : Extending image n s c) where
 
   pub extend-written : Written image z (λ k. k ≡ n)
   extend-written = record {
-    good = x .good;
+    usable = x .usable;
     known = λ k e. rw e (x .low, has);
     apart = λ k e m. x .apart (rw e at m);
     keeps = keeps-weaken (λ k clear. (clear .slots n refl, λ j low high e. clear .storage (omega arith) (omega (arith, small j high)))) extend-keeps;
@@ -182,8 +182,8 @@ module _ {image : List ℕ} {n s c : ℕ} (x : Extending image n s c) where
       ap₂ (region z) (iblb-same extend-written) (ibsz-same extend-written)
       ∙ keeps-region extend-keeps (iblb image) (ibsz image)
       (λ i low high. (
-        λ e. slot-clear image (x .good) n (omega (arith, x .low)) has .index (omega arith) (omega arith),
-        λ j l r e. maps-apart image (x .good) i (omega arith) (omega (arith, small j r)) low high,
+        λ e. slot-clear image (x .usable) n (omega (arith, x .low)) has .index (omega arith) (omega arith),
+        λ j l r e. maps-apart image (x .usable) i (omega arith) (omega (arith, small j r)) low high,
       ))
 
   extend-used : (k : ℕ) → inUse z k ≡ inUse image k
@@ -202,24 +202,24 @@ module _ {image : List ℕ} {n s c : ℕ} (x : Extending image n s c) where
   storage-at =
       ap₂ (λ (b m : ℕ). region z b (mapBlocks m)) (base-same extend-written extend-stays) (blocks-same extend-written)
       ∙ putBlock-region a (slot image n) h (extends .long) slot-room (base image) (mapBlocks (blocks image))
-      (slot-clear image (x .good) n (omega (arith, x .low)) has .storage)
+      (slot-clear image (x .usable) n (omega (arith, x .low)) has .storage)
 
   bit-clear : (j : ℕ) → s ≤ j → j < s + c → bitAt (storageMap z) j ≡ 0
   bit-clear j low high =
       rw storage-at
-      (putMapBits-bit image (base image) (mapBlocks (blocks image)) (numbersFrom s c) takenBit map-room (omega arith) (x .good .bytes)
+      (putMapBits-bit image (base image) (mapBlocks (blocks image)) (numbersFrom s c) takenBit map-room (omega arith) (x .usable .bytes)
       (λ i m. small i (in-run i m .1)) j (omega (arith, count-numbers-in s c j low high)))
 
   bit-other : (j : ℕ) → (s ≤ j → j < s + c → ⊥) → bitAt (storageMap z) j ≡ bitAt (storageMap image) j
   unfolding storageMap
   bit-other j out =
       ap (λ (m : List ℕ). bitAt m j) storage-at
-      ∙ putMapBits-rest image (base image) (mapBlocks (blocks image)) (numbersFrom s c) takenBit map-room (omega arith) (x .good .bytes)
+      ∙ putMapBits-rest image (base image) (mapBlocks (blocks image)) (numbersFrom s c) takenBit map-room (omega arith) (x .usable .bytes)
       (λ i m. small i (in-run i m .1)) j (count-numbers-out s c j out)
 
   -- Each header in use links as before, and covers at least what it did. So does file 3, and with it the home positions passed over.
   other : (k : ℕ) → inUse image k ≡ true → (k ≡ n → ⊥) → header z k ≡ header image k
-  other k u = header-same extend-written extend-stays k (used-range image k u .0) (x .good .sound .slotted k u)
+  other k u = header-same extend-written extend-stays k (used-range image k u .0) (x .usable .safe .slotted k u)
 
   links : (k : ℕ) → inUse image k ≡ true → mEfnu (header z k) ≡ mEfnu (header image k)
   links k u = go (ℕ-discrete k n)
@@ -238,9 +238,9 @@ module _ {image : List ℕ} {n s c : ℕ} (x : Extending image n s c) where
   passed : (i : ℕ) → i < homeIndex image → BlockOf z 3 (position i)
   unfolding fileBlocks chainOf
   passed i l =
-      let known = x .good .sound .known 3 (omega arith) (omega arith) in
-      let used = member-used image (x .good .sound) 3 (record { used = known .used; first = known .first }) in
-      let b = x .good .sound .passed i l in
+      let safe = x .usable .safe in
+      let used = member-used image safe 3 (known-file image safe 3 (omega arith) (omega arith)) in
+      let b = safe .passed i l in
       let chain = chain-links (header image) (header z) 256 3 (λ k m. links k (used k m)) in
       let more = flat-more (header image) (header z) (position i) (chainOf image 3) (λ k m. covers k (position i) (used k m)) in
       let was = rw (b .here) at (count-at (fileBlocks image 3) (b .place) (b .inside)) in

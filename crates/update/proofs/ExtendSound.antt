@@ -1,5 +1,5 @@
--- What extend does keeps an image sound: a place after was a place before or is one of the new run, which was free and so was no place before;
--- the fields that links are judged by are the same in every header.
+-- What extend does keeps an image safe where no place before is one of the new run: a place after was a place before or is one of the run, and the fields
+-- that links are judged by are the same in every header. It keeps a sound one sound, for there the run was free and so no place before.
 use mathlib.Core.Path.{_≡_, refl, sym, _∙_}
 use mathlib.Core.Bool.{true}
 use mathlib.Core.Logic.{_⊎_, inl, inr}
@@ -16,12 +16,16 @@ use Rattle.header.specs.Fields.{segment, mEfnu}
 use Rattle.pointers.specs.Pointers.{blocksOf}
 use Rattle.home.specs.Home.{blocks}
 use Rattle.volume.specs.Volume.{header, faultOf, inUse, storageMap}
-use Rattle.sound.specs.Sound.{GoodLink, OneLink, Covers, Mapped, Sound}
+use Rattle.sound.specs.Sound.{GoodLink, OneLink, Covers, Mapped, Safe, Sound}
 use Rattle.sound.proofs.MapLaws.{bits-enough}
 use Rattle.update.proofs.Effects.{Extended}
 use Rattle.update.proofs.SameLaws.{Alike, alike, fault-same, covers-same, known-same, link-same}
 
-module _ (image image′ : List ℕ) (n s c : ℕ) (sound : Sound image) (x : Extended image image′ n s c) where
+-- No block of the c from LBN s on is mapped.
+abbrev pub Unmapped : List ℕ → ℕ → ℕ → Type 0
+Unmapped image s c = (j : ℕ) → s ≤ j → j < s + c → Mapped image j → ⊥
+
+module _ (image image′ : List ℕ) (n s c : ℕ) (safe : Safe image) (run-free : Unmapped image s c) (x : Extended image image′ n s c) where
   abbrev Used : ℕ → Type 0
   Used k = inUse image k ≡ true
 
@@ -50,7 +54,7 @@ module _ (image image′ : List ℕ) (n s c : ℕ) (sound : Sound image) (x : Ex
   whole : (k : ℕ) → Used k → faultOf image′ k ≡ 0
   whole k u =
       by (λ (m : ℕ). faultOf image′ m ≡ 0) k (x .whole)
-      (λ ne. fault-same image image′ k (x .fixed .blocks) (x .headers k u ne) ∙ sound .whole k u)
+      (λ ne. fault-same image image′ k (x .fixed .blocks) (x .headers k u ne) ∙ safe .whole k u)
 
   -- The blocks that the header of n covered, and the new run.
   abbrev old : List ℕ
@@ -108,7 +112,7 @@ module _ (image image′ : List ℕ) (n s c : ℕ) (sound : Sound image) (x : Ex
   mapped-stays : (j : ℕ) → Mapped image j → Mapped image′ j
   mapped-stays j m = record { number = m .number; place = m .place; covers = covers-stays (m .number) (m .place) j (m .covers) }
 
-  -- The new run is mapped after, and was not before.
+  -- The new run is mapped after.
   run-mapped : (j : ℕ) → s ≤ j → j < s + c → Mapped image′ j
   run-mapped j a b =
       let i = j - s in
@@ -124,14 +128,11 @@ module _ (image image′ : List ℕ) (n s c : ℕ) (sound : Sound image) (x : Ex
         };
       }
 
-  run-free : (j : ℕ) → s ≤ j → j < s + c → Mapped image j → ⊥
-  run-free j a b m = omega (arith, sound .mapped j (omega (arith, x .fits)) m, x .was j a b)
-
   new-free : (k p m q j : ℕ) → Covers image k p j → New m q j → ⊥
   new-free k p m q j v w = run-free j (w .low) (w .high) (record { number = k; place = p; covers = v })
 
   once : (k p m q j : ℕ) → Covers image k p j ⊎ New k p j → Covers image m q j ⊎ New m q j → (k ≡ m) × (p ≡ q)
-  once k p m q j (inl v) (inl w) = sound .once k p m q j v w
+  once k p m q j (inl v) (inl w) = safe .once k p m q j v w
   once k p m q j (inl v) (inr w) = absurd (new-free k p m q j v w)
   once k p m q j (inr v) (inl w) = absurd (new-free m q k p j w v)
   once k p m q j (inr v) (inr w) = (v .number ∙ sym (w .number), omega (arith, v .place, w .place))
@@ -139,13 +140,13 @@ module _ (image image′ : List ℕ) (n s c : ℕ) (sound : Sound image) (x : Ex
   link : (k : ℕ) → Used k → (mEfnu (header image′ k) ≡ 0 → ⊥) → GoodLink image′ k
   link k u ne =
       let a = same k u in
-      let g = sound .link k u (λ z. ne (a .efnu ∙ z)) in
+      let g = safe .link k u (λ z. ne (a .efnu ∙ z)) in
       let t = mEfnu (header image k) in
       link-same image image′ k (x .fixed .slots) a (same t (g .used)) (stays t (g .used)) (whole t (g .used)) g
 
   later : (t : ℕ) → Used t → (segment (header image′ t) ≡ 0 → ⊥) → OneLink image′ t
   later t u ne =
-      let l = sound .later t u (λ z. ne (same t u .seg ∙ z)) in
+      let l = safe .later t u (λ z. ne (same t u .seg ∙ z)) in
       record {
         from = l .from;
         used = stays (l .from) (l .used);
@@ -162,15 +163,15 @@ module _ (image image′ : List ℕ) (n s c : ℕ) (sound : Sound image) (x : Ex
       go (no a) (yes b) = inl (omega arith, b)
       go (no a) (no b) = inr (λ p q. b q)
 
-  unmapped : (j : ℕ) → j < blocks image → (Mapped image′ j → ⊥) → bitAt (storageMap image′) j ≡ 1
-  unmapped j h free = go (in-run j)
+  unmapped : Sound image → (j : ℕ) → j < blocks image → (Mapped image′ j → ⊥) → bitAt (storageMap image′) j ≡ 1
+  unmapped sound j h free = go (in-run j)
     where
       go : ((s ≤ j) × (j < s + c)) ⊎ (s ≤ j → j < s + c → ⊥) → bitAt (storageMap image′) j ≡ 1
       go (inl p) = absurd (free (run-mapped j (p .0) (p .1)))
       go (inr p) = x .rest j (omega (arith, bits-enough image)) p ∙ sound .unmapped j h (λ m. free (mapped-stays j m))
 
-  mapped : (j : ℕ) → j < blocks image → Mapped image′ j → bitAt (storageMap image′) j ≡ 0
-  mapped j h m = go (in-run j) (covers-was (m .number) (m .place) j (m .covers))
+  mapped : Sound image → (j : ℕ) → j < blocks image → Mapped image′ j → bitAt (storageMap image′) j ≡ 0
+  mapped sound j h m = go (in-run j) (covers-was (m .number) (m .place) j (m .covers))
     where
       go : ((s ≤ j) × (j < s + c)) ⊎ (s ≤ j → j < s + c → ⊥) → Covers image (m .number) (m .place) j ⊎ New (m .number) (m .place) j
           → bitAt (storageMap image′) j ≡ 0
@@ -179,22 +180,33 @@ module _ (image image′ : List ℕ) (n s c : ℕ) (sound : Sound image) (x : Ex
           x .rest j (omega (arith, bits-enough image)) p ∙ sound .mapped j h (record { number = m .number; place = m .place; covers = v })
       go (inr p) (inr v) = absurd (p (v .low) (v .high))
 
-  extend-keeps : Sound image′
+  extend-keeps : Safe image′
   extend-keeps = record {
-    known = λ k a b. let q = sound .known k a b in known-same image image′ k (stays k (q .used)) (same k (q .used)) q;
-    slotted = λ k u. rw (x .fixed .slots) (sound .slotted k (was k u));
+    known = λ k a b. let q = safe .known k a b in known-same image image′ k (stays k (q .used)) (same k (q .used)) q;
+    slotted = λ k u. rw (x .fixed .slots) (safe .slotted k (was k u));
     whole = λ k u. whole k (was k u);
     link = λ k u ne. link k (was k u) ne;
-    first = λ t u z k v e. sound .first t (was t u) (sym (same t (was t u) .seg) ∙ z) k (was k v) (sym (same k (was k v) .efnu) ∙ e);
+    first = λ t u z k v e. safe .first t (was t u) (sym (same t (was t u) .seg) ∙ z) k (was k v) (sym (same k (was k v) .efnu) ∙ e);
     later = λ t u ne. later t (was t u) ne;
     once = λ k p m q j v w. once k p m q j (covers-was k p j v) (covers-was m q j w);
     passed = x .fixed .passed;
-    unmapped = λ j h free. unmapped j (rw (x .fixed .blocks) at h) free;
-    mapped = λ j h m. mapped j (rw (x .fixed .blocks) at h) m;
+  }
+
+  map-keeps : Sound image → Sound image′
+  map-keeps sound = record {
+    safe = extend-keeps;
+    unmapped = λ j h free. unmapped sound j (rw (x .fixed .blocks) at h) free;
+    mapped = λ j h m. mapped sound j (rw (x .fixed .blocks) at h) m;
     beyond = λ j h b.
         let l : blocks image ≤ j = rw (x .fixed .blocks) at h in
         x .rest j (rw (x .fixed .blocks) at b) (λ p q. omega (arith, x .fits)) ∙ sound .beyond j l (rw (x .fixed .blocks) at b);
   }
 
+pub extend-safe : (image image′ : List ℕ) (n s c : ℕ) → Safe image → Unmapped image s c → Extended image image′ n s c → Safe image′
+extend-safe = extend-keeps
+
 pub extend-sound : (image image′ : List ℕ) (n s c : ℕ) → Sound image → Extended image image′ n s c → Sound image′
-extend-sound = extend-keeps
+extend-sound image image′ n s c sound x = map-keeps image image′ n s c (sound .safe) run-free x sound
+  where
+    run-free : Unmapped image s c
+    run-free j a b m = omega (arith, sound .mapped j (omega (arith, x .fits)) m, x .was j a b)

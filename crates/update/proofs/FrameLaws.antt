@@ -23,20 +23,17 @@ use Rattle.lists.proofs.CountLaws.{count-find, count-at}
 use Rattle.slots.proofs.SlotLaws.{used-range}
 use Rattle.sound.specs.Sound.{BlockOf}
 use Rattle.sound.specs.Claims.{IsFile}
-use Rattle.sound.proofs.ChainLaws.{chain-next, member-used}
+use Rattle.sound.proofs.ChainLaws.{known-file, chain-next, member-used}
 use Rattle.sound.proofs.ApartLaws.{file-different, file-storage}
-use Rattle.update.proofs.Effects.{Clear, Good, Written, Stays, Kept, Fixed}
+use Rattle.update.proofs.Effects.{Clear, Usable, Written, Stays, Kept, Fixed}
 use Rattle.update.proofs.ChainSame.{chain-same, flat-same}
 
 -- No number.
 abbrev pub None : ℕ → Type 0
 None n = ⊥
 
--- Where things lie on a good image.
-module _ (image : List ℕ) (g : Good image) where
-  known-file : (n : ℕ) → 1 ≤ n → n ≤ 5 → IsFile image n
-  known-file n a b = record { used = g .sound .known n a b .used; first = g .sound .known n a b .first }
-
+-- Where things lie on a usable image.
+module _ (image : List ℕ) (g : Usable image) where
   -- Block p, from 0, of file f is j.
   abbrev pub Lies : ℕ → ℕ → ℕ → Type 0
   Lies f p j = (p < length (fileBlocks image f)) × (getD (fileBlocks image f) p 0 ≡ j)
@@ -64,13 +61,13 @@ module _ (image : List ℕ) (g : Good image) where
 
   -- A block is one block of one file.
   once : (f p m q j : ℕ) → IsFile image f → IsFile image m → Lies f p j → Lies m q j → (f ≡ m) × (p ≡ q)
-  once f p m q j ff fm x y = file-different image (g .sound) f m p q ff fm (x .0) (y .0) (x .1 ∙ sym (y .1))
+  once f p m q j ff fm x y = file-different image (g .safe) f m p q ff fm (x .0) (y .0) (x .1 ∙ sym (y .1))
 
   one : IsFile image 1
-  one = known-file 1 (omega arith) (omega arith)
+  one = known-file image (g .safe) 1 (omega arith) (omega arith)
 
   two : IsFile image 2
-  two = known-file 2 (omega arith) (omega arith)
+  two = known-file image (g .safe) 2 (omega arith) (omega arith)
 
   -- A file's block is clear, unless it is one of the places that are written.
   pub covered-clear : (S : ℕ → Type 0) → ((n : ℕ) → S n → (6 ≤ n) × (n ≤ slots image)) → (a p j : ℕ) → IsFile image a → Lies a p j
@@ -116,15 +113,15 @@ module _ (image : List ℕ) (g : Good image) where
 
   pub index-next : (x : ℕ) → In x (chainOf image 1) → (mEfnu (header image x) ≡ 0 → ⊥) → In (mEfnu (header image x)) (chainOf image 1)
   unfolding chainOf
-  index-next x m ne = chain-next image (g .sound) (g .bytes) 256 1 x (one .used) (omega arith) m ne
+  index-next x m ne = chain-next image (g .safe) (g .bytes) 256 1 x (one .used) (omega arith) m ne
 
 -- What every writer leaves.
 module _ {image image′ : List ℕ} {S : ℕ → Type 0} (w : Written image image′ S) where
-  abbrev g : Good image
-  g = w .good
+  abbrev g : Usable image
+  g = w .usable
 
   abbrev o : Opens image
-  o = w .good .opens
+  o = w .usable .opens
 
   -- A covered block that is not one of the places that are written.
   untouched : (a p j : ℕ) → IsFile image a → Lies image g a p j → ((n : ℕ) → S n → a ≡ 1 → p ≡ 1 + ibsz image + n → ⊥) → (a ≡ 1 → 2 ≤ p → p < 2 + ibsz image → ⊥)
@@ -148,8 +145,8 @@ module _ {image image′ : List ℕ} {S : ℕ → Type 0} (w : Written image ima
 
   passed-kept : (i : ℕ) → i < homeIndex image → block image′ (position i) ≡ block image (position i)
   passed-kept i h =
-      let b = g .sound .passed i h in
-      file-kept 3 (omega arith) (known-file image g 3 (omega arith) (omega arith)) (position i)
+      let b = g .safe .passed i h in
+      file-kept 3 (omega arith) (known-file image (g .safe) 3 (omega arith) (omega arith)) (position i)
       (rw (b .here) at (count-at (fileBlocks image 3) (b .place) (b .inside)))
 
   pub homeIndex-same : homeIndex image′ ≡ homeIndex image
@@ -203,9 +200,9 @@ module _ {image image′ : List ℕ} {S : ℕ → Type 0} (w : Written image ima
     headers-kept j l =
         let x = getD (chainOf image 1) j 0 in
         let m = index-number image g j l in
-        let u = member-used image (g .sound) 1 (one image g) x m in
+        let u = member-used image (g .safe) 1 (one image g) x m in
         let e = index-place image g j l in
-        let kept = slot-kept x (used-range image x u .0) (g .sound .slotted x u) (λ s. w .apart x s m) in
+        let kept = slot-kept x (used-range image x u .0) (g .safe .slotted x u) (λ s. w .apart x s m) in
         rw (← e) (record { bytes = kept; used = λ ne. stays _ (index-next image g x m ne) })
 
     pub places-after : places image′ ≡ places image
@@ -298,8 +295,8 @@ module _ {image image′ : List ℕ} {S : ℕ → Type 0} (w : Written image ima
       where
         same : (x : ℕ) → In x (chainOf image f) → header image′ x ≡ header image x
         same x m =
-            let u : inUse image x ≡ true = member-used image (g .sound) f file x m in
-            header-same x (used-range image x u .0) (g .sound .slotted x u) (out x m)
+            let u : inUse image x ≡ true = member-used image (g .safe) f file x m in
+            header-same x (used-range image x u .0) (g .safe .slotted x u) (out x m)
 
         chain : chainOf image′ f ≡ chainOf image f
         chain = chain-same (header image) (header image′) 256 f same
@@ -314,9 +311,9 @@ module _ {image image′ : List ℕ} {S : ℕ → Type 0} (w : Written image ima
     }
       where
         three : Kept image image′ 3
-        three = kept 3 (omega arith) (known-file image g 3 (omega arith) (omega arith)) out
+        three = kept 3 (omega arith) (known-file image (g .safe) 3 (omega arith) (omega arith)) out
 
         passed : (i : ℕ) → i < homeIndex image → BlockOf image′ 3 (position i)
         passed i h =
-            let b = g .sound .passed i h in
+            let b = g .safe .passed i h in
             record { place = b .place; inside = rw (three .blocks) (b .inside); here = rw (three .blocks) (b .here) }

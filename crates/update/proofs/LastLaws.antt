@@ -14,7 +14,7 @@ use Rattle.pointers.specs.Pointers.{flat}
 use Rattle.chains.proofs.NumberLaws.{segment-most}
 use Rattle.lists.specs.Counts.{In}
 use Rattle.lists.proofs.CountLaws.{count-none}
-use Rattle.sound.specs.Sound.{Sound}
+use Rattle.sound.specs.Sound.{Safe}
 use Rattle.sound.specs.Claims.{IsFile}
 use Rattle.sound.proofs.MemberLaws.{in-here, in-tail, chain-end, chain-more}
 use Rattle.sound.proofs.ChainLaws.{chain-first, chain-later}
@@ -27,7 +27,7 @@ last-in d x [] m = absurd (omega (arith, count-none x))
 last-in d x (y ∷ []) m = in-here y []
 last-in d x (y ∷ (z ∷ l)) m = in-tail (lastOf y (z ∷ l)) y (z ∷ l) (last-in y z (z ∷ l) (in-here z l))
 
-module _ (image : List ℕ) (bytes : Bytes image) (s : Sound image) where
+module _ (image : List ℕ) (bytes : Bytes image) (s : Safe image) where
   abbrev hdr : ℕ → List ℕ
   hdr = header image
 

@@ -11,12 +11,11 @@ use Rattle.answer.specs.declared.types.FileId.{FileId}
 use Rattle.answer.specs.declared.types.Name.{Name}
 use Rattle.answer.specs.declared.refusal.Refusal.the-variants as refusal
 use Rattle.answer.specs.declared.outcome.Outcome.the-variants.{Passed}
-use Rattle.answer.specs.Outcome.{_then_}
 use Rattle.answer.proofs.OutcomeLaws.{passed-then, passed-first, passed-last}
 use Rattle.names.specs.Names.{proper}
 use Rattle.header.specs.Fields.{hFseq}
 use Rattle.volume.specs.Volume.{fmax, slots, hasSlot, header, inUse, isNumber}
-use Rattle.open_file.specs.Opening.{openFile}
+use Rattle.open_file.specs.Opening.{Gate, anyone, openFile}
 use Rattle.open_file.proofs.OpeningLaws.{Opened, opened}
 use Rattle.verdict.specs.Verdict.{verdict}
 use Rattle.sound.specs.Claims.{IsFile}
@@ -67,7 +66,7 @@ create-passed image name b h e =
     record { named = named .0; high = high; spare = free-spare image (spareNumber image) refl high }
 
 -- A file that opens is a file.
-pub opened-file : (image : List ℕ) (id : FileId) → Opened image id → IsFile image (id .number)
+pub opened-file : {gate : Gate} (image : List ℕ) (id : FileId) → Opened gate image id → IsFile image (id .number)
 unfolding isNumber
 opened-file image id o = record {
   used = and-eq-true-iff (inUse image (id .number)) (hasSlot image (id .number)) .0 (o .found .first .0) .0;
@@ -79,7 +78,7 @@ unfolding isKnownNumber
 not-known n t = omega (arith, leb-false n _ (not-true _ t))
 
 pub record DeletePassed (image : List ℕ) (id : FileId) : Type 0 where
-  pub opens : Opened image id
+  pub opens : Opened anyone image id
   pub file : IsFile image (id .number)
   pub above : 6 ≤ id .number
 
@@ -96,7 +95,7 @@ delete-passed image id b h e =
     }
 
 pub record ExtendPassed (image : List ℕ) (id : FileId) (c : ℕ) : Type 0 where
-  pub opens : Opened image id
+  pub opens : Opened anyone image id
   pub file : IsFile image (id .number)
   pub above : 6 ≤ id .number
   pub counted : isCount c ≡ true

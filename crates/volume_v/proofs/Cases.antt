@@ -27,7 +27,7 @@ use Rattle.volume.specs.Opening.{sized, homed, geometry, heads, alone, indexLbn
 use Rattle.volume.specs.Volume.{mapBlocks}
 use Rattle.chains.specs.Chains.{linksOn, goodLink, chain, chainOf, linkOf, goodChain, fileBlocks, lastNumber}
 use Rattle.chains.specs.Finding.{findNumber}
-use Rattle.open_file.specs.Opening.{find, access, chained, openFile}
+use Rattle.open_file.specs.Opening.{find, access, chained, anyone, openOn, openBy}
 use Rattle.header.specs.Flags.{hasFlag, locked, isFixed}
 use Rattle.mapping.specs.Mapping.{hasVbn, lbnOf, findVbn, mapped, mapAnswer}
 use Rattle.verdict.specs.Verdict.{verdict}
@@ -43,15 +43,15 @@ unfolding extendOutcome
 outcome c = then-passed (verdict volumeV 100 16) (extendTests volumeV file6 c) computed
 
 passes-4 : extendTests volumeV file6 4 ≡ Passed
-unfolding first checksum wordSum wordAt zeros below region block bitOf bitAt numbersFrom unless _then_ hIdof hMpof hFnum hFseq hFlev userFlags systemFlags mapArea segment mErvn mEfnu mEfsq mCtsz mLbsz mUse mMax pointerLbn pointerCount run runs pointersAt pointers blocksOf endsInside linkTests mapTests tests firstUnmet fault hIbsz hIblb hFmax hSbcl hVlev label labelAt isHome blocks position positions homeAt homeIndex home ibsz iblb fmax indexHeader follows leadsOn placesFrom places flat index indexEnds slot slots hasSlot header faultOf indexMap inUse isNumber mapBlocks sized homed geometry heads alone indexLbn indexAt indexMapped indexed storageMapped stored openVolume linksOn goodLink chain chainOf every linkOf goodChain fileBlocks findNumber find hasFlag locked access chained openFile words join homeBlock indexMapBlock headerBlock endOfFile storageMapBlock directoryBlock volumeV file6 base storageMap isSet isFree isRun starts lowestStart isKnownNumber isFixed isCount hasRoom lastOf lastNumber runStart hasRun extendTests
+unfolding first checksum wordSum wordAt zeros below region block bitOf bitAt numbersFrom unless _then_ hIdof hMpof hFnum hFseq hFlev userFlags systemFlags mapArea segment mErvn mEfnu mEfsq mCtsz mLbsz mUse mMax pointerLbn pointerCount run runs pointersAt pointers blocksOf endsInside linkTests mapTests tests firstUnmet fault hIbsz hIblb hFmax hSbcl hVlev label labelAt isHome blocks position positions homeAt homeIndex home ibsz iblb fmax indexHeader follows leadsOn placesFrom places flat index indexEnds slot slots hasSlot header faultOf indexMap inUse isNumber mapBlocks sized homed geometry heads alone indexLbn indexAt indexMapped indexed storageMapped stored openVolume linksOn goodLink chain chainOf every linkOf goodChain fileBlocks findNumber find hasFlag locked access chained anyone openOn openBy words join homeBlock indexMapBlock headerBlock endOfFile storageMapBlock directoryBlock volumeV file6 base storageMap isSet isFree isRun starts lowestStart isKnownNumber isFixed isCount hasRoom lastOf lastNumber runStart hasRun extendTests
 passes-4 = refl
 
 starts-4 : runStart volumeV 4 ≡ 26
-unfolding first checksum wordSum wordAt zeros below region block bitOf bitAt numbersFrom unless _then_ hIdof hMpof hFnum hFseq hFlev userFlags systemFlags mapArea segment mErvn mEfnu mEfsq mCtsz mLbsz mUse mMax pointerLbn pointerCount run runs pointersAt pointers blocksOf endsInside linkTests mapTests tests firstUnmet fault hIbsz hIblb hFmax hSbcl hVlev label labelAt isHome blocks position positions homeAt homeIndex home ibsz iblb fmax indexHeader follows leadsOn placesFrom places flat index indexEnds slot slots hasSlot header faultOf indexMap inUse isNumber mapBlocks sized homed geometry heads alone indexLbn indexAt indexMapped indexed storageMapped stored openVolume linksOn goodLink chain chainOf every linkOf goodChain fileBlocks findNumber find hasFlag locked access chained openFile words join homeBlock indexMapBlock headerBlock endOfFile storageMapBlock directoryBlock volumeV file6 base storageMap isSet isFree isRun starts lowestStart isKnownNumber isFixed isCount hasRoom lastOf lastNumber runStart hasRun extendTests
+unfolding first checksum wordSum wordAt zeros below region block bitOf bitAt numbersFrom unless _then_ hIdof hMpof hFnum hFseq hFlev userFlags systemFlags mapArea segment mErvn mEfnu mEfsq mCtsz mLbsz mUse mMax pointerLbn pointerCount run runs pointersAt pointers blocksOf endsInside linkTests mapTests tests firstUnmet fault hIbsz hIblb hFmax hSbcl hVlev label labelAt isHome blocks position positions homeAt homeIndex home ibsz iblb fmax indexHeader follows leadsOn placesFrom places flat index indexEnds slot slots hasSlot header faultOf indexMap inUse isNumber mapBlocks sized homed geometry heads alone indexLbn indexAt indexMapped indexed storageMapped stored openVolume linksOn goodLink chain chainOf every linkOf goodChain fileBlocks findNumber find hasFlag locked access chained anyone openOn openBy words join homeBlock indexMapBlock headerBlock endOfFile storageMapBlock directoryBlock volumeV file6 base storageMap isSet isFree isRun starts lowestStart isKnownNumber isFixed isCount hasRoom lastOf lastNumber runStart hasRun extendTests
 starts-4 = refl
 
 refuses-68 : extendTests volumeV file6 68 ≡ Refused refusal.Run
-unfolding first checksum wordSum wordAt zeros below region block bitOf bitAt numbersFrom unless _then_ hIdof hMpof hFnum hFseq hFlev userFlags systemFlags mapArea segment mErvn mEfnu mEfsq mCtsz mLbsz mUse mMax pointerLbn pointerCount run runs pointersAt pointers blocksOf endsInside linkTests mapTests tests firstUnmet fault hIbsz hIblb hFmax hSbcl hVlev label labelAt isHome blocks position positions homeAt homeIndex home ibsz iblb fmax indexHeader follows leadsOn placesFrom places flat index indexEnds slot slots hasSlot header faultOf indexMap inUse isNumber mapBlocks sized homed geometry heads alone indexLbn indexAt indexMapped indexed storageMapped stored openVolume linksOn goodLink chain chainOf every linkOf goodChain fileBlocks findNumber find hasFlag locked access chained openFile words join homeBlock indexMapBlock headerBlock endOfFile storageMapBlock directoryBlock volumeV file6 base storageMap isSet isFree isRun starts lowestStart isKnownNumber isFixed isCount hasRoom lastOf lastNumber runStart hasRun extendTests
+unfolding first checksum wordSum wordAt zeros below region block bitOf bitAt numbersFrom unless _then_ hIdof hMpof hFnum hFseq hFlev userFlags systemFlags mapArea segment mErvn mEfnu mEfsq mCtsz mLbsz mUse mMax pointerLbn pointerCount run runs pointersAt pointers blocksOf endsInside linkTests mapTests tests firstUnmet fault hIbsz hIblb hFmax hSbcl hVlev label labelAt isHome blocks position positions homeAt homeIndex home ibsz iblb fmax indexHeader follows leadsOn placesFrom places flat index indexEnds slot slots hasSlot header faultOf indexMap inUse isNumber mapBlocks sized homed geometry heads alone indexLbn indexAt indexMapped indexed storageMapped stored openVolume linksOn goodLink chain chainOf every linkOf goodChain fileBlocks findNumber find hasFlag locked access chained anyone openOn openBy words join homeBlock indexMapBlock headerBlock endOfFile storageMapBlock directoryBlock volumeV file6 base storageMap isSet isFree isRun starts lowestStart isKnownNumber isFixed isCount hasRoom lastOf lastNumber runStart hasRun extendTests
 refuses-68 = refl
 
 extend-4-is : extendAnswer volumeV file6 4 100 16 ≡ answers.Done (record { 0 = 26 })
@@ -63,5 +63,5 @@ unfolding extendAnswer extended
 extend-68-is = rw (outcome 68 ∙ refuses-68)
 
 pub cases : Cases
-unfolding reads dat twoWords partWord codeAt codeOf first hasChar charOf wordOf charactersOf checksum wordSum wordAt zeros below region block bitOf bitAt numbersFrom unless _then_ hIdof hMpof hFnum hFseq hFlev userFlags systemFlags mapArea segment mErvn mEfnu mEfsq mCtsz mLbsz mUse mMax pointerLbn pointerCount run runs pointersAt pointers blocksOf endsInside linkTests mapTests tests firstUnmet fault hIbsz hIblb hFmax hSbcl hVlev label labelAt isHome blocks position positions homeAt homeIndex home ibsz iblb fmax indexHeader follows leadsOn placesFrom places flat index indexEnds slot slots hasSlot header faultOf indexMap inUse isNumber mapBlocks sized homed geometry heads alone indexLbn indexAt indexMapped indexed storageMapped stored openVolume linksOn goodLink chain chainOf every linkOf goodChain fileBlocks findNumber find hasFlag locked access chained openFile hasVbn lbnOf findVbn mapped mapAnswer words join homeBlock indexMapBlock headerBlock endOfFile storageMapBlock directoryBlock volumeV file6
+unfolding reads dat twoWords partWord codeAt codeOf first hasChar charOf wordOf charactersOf checksum wordSum wordAt zeros below region block bitOf bitAt numbersFrom unless _then_ hIdof hMpof hFnum hFseq hFlev userFlags systemFlags mapArea segment mErvn mEfnu mEfsq mCtsz mLbsz mUse mMax pointerLbn pointerCount run runs pointersAt pointers blocksOf endsInside linkTests mapTests tests firstUnmet fault hIbsz hIblb hFmax hSbcl hVlev label labelAt isHome blocks position positions homeAt homeIndex home ibsz iblb fmax indexHeader follows leadsOn placesFrom places flat index indexEnds slot slots hasSlot header faultOf indexMap inUse isNumber mapBlocks sized homed geometry heads alone indexLbn indexAt indexMapped indexed storageMapped stored openVolume linksOn goodLink chain chainOf every linkOf goodChain fileBlocks findNumber find hasFlag locked access chained anyone openOn openBy hasVbn lbnOf findVbn mapped mapAnswer words join homeBlock indexMapBlock headerBlock endOfFile storageMapBlock directoryBlock volumeV file6
 cases = record { reads-is = refl; dat-is = refl; nines = refl; above = refl; sum = refl; fmax-4096 = refl; fmax-4097 = refl; vbn-2 = refl; vbn-3 = refl; vbn-4 = refl; extend-4 = extend-4-is; extend-68 = extend-68-is }

@@ -51,7 +51,7 @@ delete-on-requires : tie.Need-delete-on-requires
 delete-on-requires c κs =
     let t = c .before .before in
     let v = judging t .judge-volume .ensures in
-    ((sound t .0, v .1 (passed t), v .4 (passed t)), sound t .1)
+    ((sound t .0, v .1 (passed t), v .4 (passed t)), sound t .1 .safe)
 
 returns : tie.Need-returns
 unfolding deleteAnswer deleteImage

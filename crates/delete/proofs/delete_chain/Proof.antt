@@ -11,7 +11,7 @@ use Rattle.delete.proofs.ChainLaws.{first-file, index-inside, index-num
 use Rattle.delete.proofs.delete_chain.Statement.{statement}
 use Rattle.delete.proofs.delete_chain.Tie as tie
 
--- The file, of a good image.
+-- The file, of a usable image.
 module _ (c : tie.After-map-blocks) where
   abbrev gathered : tie.After-members-of
   gathered = c .before .before .before
@@ -30,7 +30,7 @@ module _ (c : tie.After-map-blocks) where
 
   file : Deleting image n
   file = record {
-    good = record { bytes = bytes; opens = opens image (start .pre .0 .0); sound = start .pre .1 };
+    usable = record { bytes = bytes; opens = opens image (start .pre .0 .0); safe = start .pre .1 };
     file = first-file image n (start .pre .2);
     high = start .pre .4;
   }

@@ -8,11 +8,10 @@ use borrow.Author.Needs.{needs}
 use Rattle.answer.specs.declared.types.FileId.{FileId}
 use Rattle.answer.specs.declared.refusal.Refusal.the-variants as refusal
 use Rattle.answer.specs.declared.outcome.Outcome.the-variants.{Passed}
-use Rattle.answer.specs.Outcome.{_then_}
-use Rattle.open_file.specs.Opening.{find, access, chained, openFile}
-use Rattle.open_file.proofs.OpeningLaws.{opened}
+use Rattle.open_file.specs.Opening.{anyone, openOn, openFile}
+use Rattle.open_file.proofs.OpeningLaws.{opened, by-on}
 use Rattle.update.specs.Delete.{deleteTests}
-use Rattle.delete.proofs.OutcomeLaws.{open-row, tests-refused, tests-known, tests-passed, answer-refused, answer-done}
+use Rattle.delete.proofs.OutcomeLaws.{tests-refused, tests-known, tests-passed, answer-refused, answer-done}
 use Rattle.delete.proofs.delete_on.Statement.{statement}
 use Rattle.delete.proofs.delete_on.Tie as tie
 
@@ -30,11 +29,11 @@ module _ (c : tie.After-enum-told) where
   abbrev id : FileId
   id = start .args .id
 
-  row : (find image id then access image id then chained image id) ≡ Passed
+  row : openOn anyone image id ≡ Passed
   row = sym (opening .open-on .ensures .0) ∙ c .enum-told .given .1
 
   passed : openFile image id ≡ Passed
-  passed = open-row image id (start .pre .0 .0) ∙ row
+  passed = by-on anyone image id (start .pre .0 .0) ∙ row
 
 open-on-requires : tie.Need-open-on-requires
 open-on-requires c κs = c .before .before .pre .0
@@ -61,7 +60,7 @@ returns-3 c =
     let s = o .before .before .before in
     let image = now (s .args .image) in
     let id = s .args .id in
-    answer-refused image id (deleteTests image id) _ (tests-refused image id _ (open-row image id (s .pre .0 .0) ∙ (sym (o .open-on .ensures .0) ∙ c .before .result .given .1)))
+    answer-refused image id (deleteTests image id) _ (tests-refused image id _ (by-on anyone image id (s .pre .0 .0) ∙ (sym (o .open-on .ensures .0) ∙ c .before .result .given .1)))
 
 pub delete-on-spec : {M : Type 1} → statement M
 delete-on-spec =

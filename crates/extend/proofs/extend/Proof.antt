@@ -1,4 +1,4 @@
--- The volume is judged, and refused, or extend goes on from there: an image that is accepted is sound.
+-- The volume is judged, and refused, or extend goes on from there: an image that is accepted is sound, and so safe.
 use mathlib.Core.Path.{_≡_, refl, sym, ap, _∙_}
 use mathlib.Core.List.{List}
 use Prim.Native.Nat.{ℕ}
@@ -45,7 +45,7 @@ extend-on-requires c κs =
     let j = t .before .before .before .before .before .before .before in
     let room = passed-room (image j) (area j) (headers j) (passed t) in (
       (passed-opens (image j) (area j) (headers j) (passed t), j .judge-volume .ensures .1 (passed t), j .judge-volume .ensures .4 (passed t)),
-      verdict-judges (image j) (area j) (headers j) (room .0) (room .1) .yields (passed t) .1,
+      verdict-judges (image j) (area j) (headers j) (room .0) (room .1) .yields (passed t) .1 .safe,
     )
 
 returns : tie.Need-returns

@@ -1,4 +1,4 @@
--- Where the tests are passed the stores have what they need, for the image is sound.
+-- Where the tests are passed the stores have what they need, for the image is safe.
 use mathlib.Core.Path.{sym, _∙_}
 use mathlib.Core.List.{List}
 use Prim.Native.Nat.{ℕ}
@@ -9,7 +9,7 @@ use Rattle.volume.specs.Volume.{slot}
 use Rattle.volume.proofs.VolumeLaws.{opens}
 use Rattle.chains.specs.Chains.{lastNumber}
 use Rattle.update.specs.Extend.{runStart, extendTests}
-use Rattle.update.proofs.Effects.{Good}
+use Rattle.update.proofs.Effects.{Usable}
 use Rattle.update.proofs.PassedLaws.{extend-tested}
 use Rattle.extend_plan.specs.declared.Plan.the-variants as plan
 use Rattle.update.proofs.DoneLaws.{image-refused, image-done}
@@ -31,11 +31,11 @@ module _ (c : tie.After-plan-on) where
   abbrev lbn : ℕ
   lbn = runStart image (start .args .c)
 
-  good : Good image
-  good = record {
+  usable : Usable image
+  usable = record {
     bytes = record { each = λ i. omega (arith, c .before .before .slice-known .given i) };
     opens = opens image (start .pre .0 .0);
-    sound = start .pre .1;
+    safe = start .pre .1;
   }
 
 told : (c : tie.After-plan)
@@ -53,7 +53,7 @@ take-requires c κs =
     let t = c .before .before in
     let p = t .before .before in
     let a = start p .args in
-    ((start p .pre .0 .0, start p .pre .0 .1), rw (told t .1, told t .2) (takes (image p) (good p) (a .id) (a .c) (extend-tested (image p) (a .id) (a .c) (told t .0))))
+    ((start p .pre .0 .0, start p .pre .0 .1), rw (told t .1, told t .2) (takes (image p) (usable p) (a .id) (a .c) (extend-tested (image p) (a .id) (a .c) (told t .0))))
 
 returns : tie.Need-returns
 returns c =

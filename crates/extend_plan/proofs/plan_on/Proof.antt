@@ -8,10 +8,11 @@ use borrow.Author.Needs.{needs}
 use Rattle.image.specs.Blocks.{block}
 use Rattle.answer.specs.declared.outcome.Outcome.the-variants as outcome
 use Rattle.volume.specs.Volume.{slot, header}
-use Rattle.open_file.proofs.OpeningLaws.{Opened, opened}
+use Rattle.open_file.specs.Opening.{anyone, openOn}
+use Rattle.open_file.proofs.OpeningLaws.{Opened, opened, by-on}
 use Rattle.update.specs.Extend.{runStart}
 use Rattle.update.proofs.ExtendLaws.{count-range}
-use Rattle.extend_plan.proofs.TestLaws.{admits, admits-count, finding, finding-is, tests-opening, tests-admits, tests-rooms, planned-refused, planned-at}
+use Rattle.extend_plan.proofs.TestLaws.{admits, admits-count, tests-opening, tests-admits, tests-rooms, planned-refused, planned-at}
 use Rattle.extend_plan.proofs.plan_on.Statement.{statement}
 use Rattle.extend_plan.proofs.plan_on.Tie as tie
 
@@ -28,11 +29,11 @@ module _ (c : tie.After-enum-told) where
   abbrev n : ℕ
   n = start .args .id .number
 
-  passed : finding image (start .args .id) (start .pre .0) ≡ outcome.Passed
+  passed : openOn anyone image (start .args .id) ≡ outcome.Passed
   passed = sym (found .open-on .ensures .0) ∙ c .enum-told .given .1
 
-  file : Opened image (start .args .id)
-  file = opened image (start .args .id) (finding-is image (start .args .id) (start .pre .0) ∙ passed)
+  file : Opened anyone image (start .args .id)
+  file = opened image (start .args .id) (by-on anyone image (start .args .id) (start .pre .0) ∙ passed)
 
   lies : found .open-on .result .header .0 ≡ slot image n
   lies = found .open-on .ensures .1 passed .1

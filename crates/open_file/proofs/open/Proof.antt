@@ -2,12 +2,10 @@
 use borrow.Author.Needs.{needs}
 use mathlib.Core.Path.{_≡_, refl, sym, _∙_}
 use denote.Ref.{now}
-use Rattle.answer.specs.Outcome.{_then_}
-use Rattle.answer.proofs.OutcomeLaws.{then-passed, then-refused}
 use Rattle.answer.specs.declared.outcome.Outcome.the-variants.{Passed}
 use Rattle.volume.specs.Opening.{openVolume}
-use Rattle.open_file.specs.Opening.{find, access, chained, openFile}
-use Rattle.open_file.proofs.OpeningLaws.{places-refused}
+use Rattle.open_file.specs.Opening.{anyone}
+use Rattle.open_file.proofs.OpeningLaws.{places-refused, by-unopened, by-on}
 use Rattle.open_file.proofs.open.Statement.{statement}
 use Rattle.open_file.proofs.open.Tie as tie
 
@@ -24,24 +22,20 @@ open-on-requires c κs =
     (passed t, o .open .ensures .1 (passed t), o .open .ensures .2 (passed t))
 
 returns : tie.Need-returns
-unfolding openFile
 returns c =
     let t = c .before .before .before in
     let a = t .before .before .before .before .before .before .args in
     let o = t .before .before .before in
     let told = c .before .open-on .ensures in
-    rw (then-passed (openVolume (now (a .image))) _ (passed t)) (told .0, λ p. (o .open .ensures .1 (passed t), told .1 p .0, told .1 p .1), told .2, λ p. o .open .ensures .2 (passed t))
+    rw (by-on anyone (now (a .image)) (a .id) (passed t)) (told .0, λ p. (o .open .ensures .1 (passed t), told .1 p .0, told .1 p .1), told .2, λ p. o .open .ensures .2 (passed t))
 
 returns-2 : tie.Need-returns-2
-unfolding openFile
 returns-2 c =
     let d = c .before in
     let o = d .before .before .before in
     let a = o .before .before .before .args in
     let image = now (a .image) in
-    places-refused image (a .id) _ _ _ _
-    (then-refused (openVolume image) (find image (a .id) then access image (a .id) then chained image (a .id)) _ (sym (o .open .ensures .0) ∙ d .result .given .1))
-    refl refl
+    places-refused image (a .id) _ _ _ _ (by-unopened anyone image (a .id) _ (sym (o .open .ensures .0) ∙ d .result .given .1)) refl refl
 
 pub open-spec : {M : Type 1} → statement M
 open-spec =

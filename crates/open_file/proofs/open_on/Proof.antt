@@ -3,12 +3,10 @@ use borrow.Author.Needs.{needs}
 use mathlib.Core.Path.{_≡_, sym, ap, _∙_}
 use denote.Ref.{now}
 use Rattle.image.specs.Blocks.{block}
-use Rattle.answer.specs.Outcome.{_then_}
-use Rattle.answer.proofs.OutcomeLaws.{then-passed, then-refused}
 use Rattle.volume.specs.Volume.{slot, header}
 use Rattle.answer.specs.declared.outcome.Outcome.the-variants.{Passed}
-use Rattle.open_file.specs.Opening.{find, access, chained}
-use Rattle.open_file.proofs.OpeningLaws.{access-by, tells-refused, finds}
+use Rattle.open_file.specs.Opening.{find, access, anyone}
+use Rattle.open_file.proofs.OpeningLaws.{access-by, tells-refused, finds, anyone-passed, on-unfound, on-locked, on-chained}
 use Rattle.open_file.proofs.open_on.Statement.{statement}
 use Rattle.open_file.proofs.open_on.Tie as tie
 
@@ -43,8 +41,7 @@ returns c =
     let p = x .before .before in
     let a = p .before .before .before .before .before .args in
     let image = now (a .image) in
-    rw (then-passed (find image (a .id)) _ (known p .0), then-passed (access image (a .id)) (chained image (a .id)) (sym (asked x) ∙ d .enum-told2 .given .1))
-    (c .open-chain .ensures)
+    rw (on-chained anyone image (a .id) (known p .0) (anyone-passed _) (sym (asked x) ∙ d .enum-told2 .given .1)) (c .open-chain .ensures)
 
 returns-2 : tie.Need-returns-2
 returns-2 c =
@@ -54,7 +51,7 @@ returns-2 c =
     let a = p .before .before .before .before .before .args in
     let image = now (a .image) in
     tells-refused image (a .id) _ _ _
-    (then-passed (find image (a .id)) _ (known p .0) ∙ then-refused (access image (a .id)) (chained image (a .id)) _ (sym (asked x) ∙ d .admitted .given .1))
+    (on-locked anyone image (a .id) (known p .0) (anyone-passed _) _ (sym (asked x) ∙ d .admitted .given .1))
     (c .refused .ensures .0) (c .refused .ensures .1)
 
 returns-3 : tie.Need-returns-3
@@ -64,7 +61,7 @@ returns-3 c =
     let a = f .before .before .args in
     let image = now (a .image) in
     tells-refused image (a .id) _ _ _
-    (then-refused (find image (a .id)) (access image (a .id) then chained image (a .id)) _ (sym (f .find .ensures .0) ∙ d .result .given .1))
+    (on-unfound anyone image (a .id) _ (sym (f .find .ensures .0) ∙ d .result .given .1))
     (c .refused2 .ensures .0) (c .refused2 .ensures .1)
 
 pub open-on-spec : {M : Type 1} → statement M
