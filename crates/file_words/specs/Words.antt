@@ -8,8 +8,8 @@ use Rattle.mapping.specs.declared.Mapped.{Mapped}
 use Rattle.mapping.specs.declared.Mapped.the-variants as mapped
 use Rattle.extents.specs.declared.Extent.{Extent}
 use Rattle.extents.specs.declared.Extent.the-variants as extents
-use Rattle.file_facts.specs.declared.Described.{Described}
-use Rattle.file_facts.specs.declared.Described.the-variants as described
+use Rattle.file_facts.specs.declared.types.AttributesAnswer.{AttributesAnswer}
+use Rattle.file_facts.specs.declared.types.AttributesAnswer.the-variants as answers
 
 -- 01, Answer numbers: DONE has as value the "block count (open file)".
 abbrev pub openedFileWords : OpenedFile → List ℕ
@@ -28,8 +28,8 @@ blockWords (mapped.Done lbn) = doneWords (512 * lbn .0 ∷ 512 ∷ [])
 blockWords (mapped.Refused r) = refusedWords r
 
 -- Block count, bytes before the end of file, H.FOWN, H.FPRO, H.FCHA, F.RTYP with F.RATT, F.RSIZ, F.HIBK, F.EFBK, F.FFBY.
-abbrev pub describedWords : Described → List ℕ
-describedWords (described.Done f) =
+abbrev pub attributesWords : AttributesAnswer → List ℕ
+attributesWords (answers.Done f) =
     doneWords (
     f .blocks
     ∷ f .end
@@ -42,7 +42,7 @@ describedWords (described.Done f) =
     ∷ f .«end_block»
     ∷ f .«first_free»
     ∷ [])
-describedWords (described.Refused r) = refusedWords r
+attributesWords (answers.Refused r) = refusedWords r
 
 -- The LBN of the VBN, and how many blocks lie in a row from there on.
 abbrev pub extentWords : Extent → List ℕ

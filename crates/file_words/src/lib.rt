@@ -2,11 +2,11 @@
 use answer::words::put_done;
 use answer::words::put_refused;
 use extents::Extent;
-use file_facts::Described;
+use file_facts::types::AttributesAnswer;
 use mapping::Mapped;
 use open_file::OpenedFile;
 ghost use mathlib.Core.Path.{_≡_};
-ghost use Rattle.file_words.specs.Words.{openedFileWords, mappedWords, blockWords, describedWords, extentWords};
+ghost use Rattle.file_words.specs.Words.{openedFileWords, mappedWords, blockWords, attributesWords, extentWords};
 
 // The words of a file that was opened.
 pub fn put_opened_file(answer: &mut [u64; 12], opened: OpenedFile)
@@ -53,11 +53,11 @@ pub fn put_block(answer: &mut [u64; 12], mapped: Mapped)
 }
 
 // The words of what a file says of itself.
-pub fn put_described(answer: &mut [u64; 12], described: Described)
-    ensures { λ _. ⌜ now (answer .exit) ≡ describedWords described ⌝ }
+pub fn put_attributes(answer: &mut [u64; 12], result: AttributesAnswer)
+    ensures { λ _. ⌜ now (answer .exit) ≡ attributesWords result ⌝ }
 {
-    match described {
-        Described::Done(f) => {
+    match result {
+        AttributesAnswer::Done(f) => {
             put_done(
                 answer,
                 [
@@ -74,7 +74,7 @@ pub fn put_described(answer: &mut [u64; 12], described: Described)
                 ],
             );
         }
-        Described::Refused(r) => {
+        AttributesAnswer::Refused(r) => {
             put_refused(answer, r);
         }
     }

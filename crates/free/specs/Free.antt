@@ -40,7 +40,7 @@ freeFrom outcome.Passed lbn count = Done (record { 0 = lbn }) count
 freeFrom (outcome.Refused r) lbn count = Refused r
 
 -- The first run of free blocks from an LBN on: the LBN of its first block, and how many blocks it has.
-unfoldable pub freeRun : List ℕ → ℕ → Free
-freeRun image from =
+unfoldable pub freeRunAnswer : List ℕ → ℕ → Free
+freeRunAnswer image from =
     let lbn = nextFree image from in
     freeFrom (findFree image from) lbn (nextTaken image lbn - lbn)

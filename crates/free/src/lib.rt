@@ -11,7 +11,7 @@ ghost use mathlib.Core.Path.{_≡_};
 ghost use Prim.Native.Nat.{_*_, _^_, _≤_, _<_};
 ghost use lib.ListN.{length};
 ghost use Rattle.volume.specs.Opening.{Open};
-ghost use Rattle.free.specs.Free.{nextBit, freeRun};
+ghost use Rattle.free.specs.Free.{nextBit, freeRunAnswer};
 
 // The answer of asking for free blocks.
 pub enum Free {
@@ -38,7 +38,7 @@ fn next_bit(map: &[u8], n: u32, b: u8, from: u32) -> u32
 // The first run of free blocks from an LBN on, of an opened volume: ABSENT.
 fn free_on(image: &[u8], v: Volume, from: u32) -> Free
     requires { ⌜ Open (now image) v ⌝ }
-    ensures { λ r. ⌜ r ≡ freeRun (now (image .entry)) from ⌝ }
+    ensures { λ r. ⌜ r ≡ freeRunAnswer (now (image .entry)) from ⌝ }
 {
     let map = region(image, v.base, map_blocks(v.blocks));
     let start = next_bit(map, v.blocks, 1, from);
@@ -51,7 +51,7 @@ fn free_on(image: &[u8], v: Volume, from: u32) -> Free
 
 // The first run of free blocks from an LBN on; ABSENT where no block from there on is free.
 pub fn free_run(image: &[u8], from: Lbn) -> Free
-    ensures { λ r. ⌜ r ≡ freeRun (now (image .entry)) (from .0) ⌝ }
+    ensures { λ r. ⌜ r ≡ freeRunAnswer (now (image .entry)) (from .0) ⌝ }
 {
     let mut places = [0u32; 256];
     let opened = open(image, &mut places);

@@ -12,9 +12,9 @@ use Rattle.pointers.specs.Pointers.{pointerLbn, pointerCount, pointers, pointer
 use Rattle.volume.specs.Volume.{header}
 use Rattle.volume.specs.Opening.{openVolume}
 use Rattle.chains.specs.Finding.{findNumber}
-use Rattle.header_facts.specs.declared.HeaderFacts.{HeaderFacts}
-use Rattle.header_facts.specs.declared.Shown.{Shown}
-use Rattle.header_facts.specs.declared.Shown.the-variants as shown
+use Rattle.header_facts.specs.declared.types.Header.{Header}
+use Rattle.header_facts.specs.declared.types.HeaderAnswer.{HeaderAnswer}
+use Rattle.header_facts.specs.declared.types.HeaderAnswer.the-variants as headers
 use Rattle.header_facts.specs.declared.Pointed.{Pointed}
 use Rattle.header_facts.specs.declared.Pointed.the-variants as pointed
 
@@ -23,7 +23,7 @@ unfoldable pub findHeader : List ℕ → ℕ → Outcome
 findHeader image n = openVolume image then findNumber image n
 
 -- H.FSEQ; segment number, M.EFNU and M.EFSQ; how many retrieval pointers are in use; the name in the ident area.
-unfoldable pub factsOf : List ℕ → HeaderFacts
+unfoldable pub factsOf : List ℕ → Header
 factsOf h = record {
   sequence = hFseq h;
   segment = segment h;
@@ -33,13 +33,13 @@ factsOf h = record {
   name = identName h;
 }
 
-unfoldable pub shownBy : Outcome → HeaderFacts → Shown
-shownBy outcome.Passed f = shown.Done f
-shownBy (outcome.Refused r) f = shown.Refused r
+unfoldable pub headerBy : Outcome → Header → HeaderAnswer
+headerBy outcome.Passed f = headers.Done f
+headerBy (outcome.Refused r) f = headers.Refused r
 
 -- What the header in the slot of number n says.
-unfoldable pub headerAnswer : List ℕ → ℕ → Shown
-headerAnswer image n = shownBy (findHeader image n) (factsOf (header image n))
+unfoldable pub headerAnswer : List ℕ → ℕ → HeaderAnswer
+headerAnswer image n = headerBy (findHeader image n) (factsOf (header image n))
 
 -- ABSENT past the last retrieval pointer in use.
 unfoldable pub findPointer : List ℕ → ℕ → ℕ → Outcome

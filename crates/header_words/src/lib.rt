@@ -2,16 +2,16 @@
 use answer::words::put_done;
 use answer::words::put_refused;
 use header_facts::Pointed;
-use header_facts::Shown;
+use header_facts::types::HeaderAnswer;
 ghost use mathlib.Core.Path.{_≡_};
-ghost use Rattle.header_words.specs.Words.{shownWords, pointedWords};
+ghost use Rattle.header_words.specs.Words.{headerWords, pointedWords};
 
 // The words of what a header says.
-pub fn put_shown(answer: &mut [u64; 12], shown: Shown)
-    ensures { λ _. ⌜ now (answer .exit) ≡ shownWords shown ⌝ }
+pub fn put_header(answer: &mut [u64; 12], result: HeaderAnswer)
+    ensures { λ _. ⌜ now (answer .exit) ≡ headerWords result ⌝ }
 {
-    match shown {
-        Shown::Done(f) => {
+    match result {
+        HeaderAnswer::Done(f) => {
             let n = f.name;
             put_done(
                 answer,
@@ -29,7 +29,7 @@ pub fn put_shown(answer: &mut [u64; 12], shown: Shown)
                 ],
             );
         }
-        Shown::Refused(r) => {
+        HeaderAnswer::Refused(r) => {
             put_refused(answer, r);
         }
     }

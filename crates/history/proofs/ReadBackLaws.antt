@@ -20,7 +20,7 @@ use Rattle.open_file.specs.declared.OpenedFile.the-variants as openedFiles
 use Rattle.chains.specs.Chains.{chain, chainOf, fileBlocks, lastNumber}
 use Rattle.pointers.specs.Pointers.{flat}
 use Rattle.header.specs.Flags.{hasFlag, locked}
-use Rattle.open_file.specs.Opening.{openFile, openedFile, openAnswer}
+use Rattle.open_file.specs.Opening.{openFile, openedFile, openFileAnswer}
 use Rattle.lists.specs.Counts.{count, In}
 use Rattle.sound.specs.Claims.{IsFile}
 use Rattle.sound.proofs.MemberLaws.{flat-end}
@@ -96,8 +96,8 @@ unfolding locked
 locked-same h h′ u s = rw (u, s)
 
 -- The answer of opening a file that opens.
-open-done : (image : List ℕ) (id : FileId) (k : ℕ) → openFile image id ≡ Passed → length (fileBlocks image (id .number)) ≡ k → openAnswer image id ≡ openedFiles.Done k
-unfolding openAnswer openedFile
+open-done : (image : List ℕ) (id : FileId) (k : ℕ) → openFile image id ≡ Passed → length (fileBlocks image (id .number)) ≡ k → openFileAnswer image id ≡ openedFiles.Done k
+unfolding openFileAnswer openedFile
 open-done image id k o e = rw (o, e) refl
 
 -- A file of one header that covers nothing has no blocks.
@@ -208,7 +208,7 @@ module _ (image : List ℕ) (g : Good image) where
         open-file z good id (o .found .relvol) (record { used = effect .used f ∙ file .used; first = first .seg ∙ file .first })
         (first .word ∙ o .found .sequence) (first .lock ∙ o .unlocked)
 
-    extend-reads : (openAnswer z id ≡ openedFiles.Done (length (fileBlocks image f) + c)) × (fileBlocks z f ≡ fileBlocks image f ++ numbersFrom s c)
+    extend-reads : (openFileAnswer z id ≡ openedFiles.Done (length (fileBlocks image f) + c)) × (fileBlocks z f ≡ fileBlocks image f ++ numbersFrom s c)
     extend-reads =
         let long : length (fileBlocks z f) ≡ length (fileBlocks image f) + c =
         ap length grows ∙ length-append (fileBlocks image f) (numbersFrom s c) ∙ omega (arith, numbersFrom-length s c) in

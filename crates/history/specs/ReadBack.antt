@@ -14,7 +14,7 @@ use Rattle.answer.specs.declared.outcome.Outcome.the-variants as outcome
 use Rattle.volume.specs.Volume.{inUse}
 use Rattle.open_file.specs.declared.OpenedFile.the-variants as opened
 use Rattle.chains.specs.Chains.{fileBlocks}
-use Rattle.open_file.specs.Opening.{openFile, openAnswer}
+use Rattle.open_file.specs.Opening.{openFile, openFileAnswer}
 use Rattle.update.specs.declared.answers.Created.the-variants as created
 use Rattle.update.specs.declared.answers.Extended.the-variants as extended
 use Rattle.update.specs.declared.answers.Deleted.the-variants as deleted
@@ -29,13 +29,13 @@ abbrev pub AfterCreate : List ℕ → Type 0
 AfterCreate image =
     (name : Name) (owner protection : ℕ) (area headers : List ℕ) → Words (create name owner protection area headers)
     → (id : FileId) → createAnswer image name (length area) (length headers) ≡ created.Done id
-    → openAnswer (createImage image name owner protection (length area) (length headers)) id ≡ opened.Done 0
+    → openFileAnswer (createImage image name owner protection (length area) (length headers)) id ≡ opened.Done 0
 
 -- After an extend that is DONE the file opens, and its blocks are those that it had and then the c new ones.
 abbrev pub AfterExtend : List ℕ → Type 0
 AfterExtend image =
     (id : FileId) (c : ℕ) (area headers : List ℕ) (lbn : Lbn) → extendAnswer image id c (length area) (length headers) ≡ extended.Done lbn
-    → (openAnswer (extendImage image id c (length area) (length headers)) id ≡ opened.Done (length (fileBlocks image (id .number)) + c))
+    → (openFileAnswer (extendImage image id c (length area) (length headers)) id ≡ opened.Done (length (fileBlocks image (id .number)) + c))
     × (fileBlocks (extendImage image id c (length area) (length headers)) (id .number) ≡ fileBlocks image (id .number) ++ numbersFrom (lbn .0) c)
 
 -- After a delete that is DONE, and after every list of calls that follows, the ID is refused: as NUMBER while its number is not in use, as SEQUENCE once it

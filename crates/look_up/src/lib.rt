@@ -18,7 +18,7 @@ ghost use Rattle.answer.specs.declared.outcome.Outcome.the-variants.{Passed};
 ghost use Rattle.volume.specs.Volume.{slot, volumeOf, placesOf};
 ghost use Rattle.open_file.specs.Opening.{openFile};
 ghost use Rattle.directory.specs.Search.{recordCount};
-ghost use Rattle.look_up.specs.LookUp.{lookUp, nextRecord};
+ghost use Rattle.look_up.specs.LookUp.{lookUpAnswer, nextRecordAnswer};
 
 // The answer of a look-up.
 pub enum Found {
@@ -38,7 +38,7 @@ fn look_up_opened(
     name: Name,
 ) -> Found
     requires { ⌜ (openFile (now image) id ≡ Passed) × (v ≡ volumeOf (now image)) × (count ≡ recordCount (now image) (id .number)) × (lbn .0 ≡ slot (now image) (id .number)) × (now places ≡ placesOf (now image)) ⌝ }
-    ensures { λ r. ⌜ r ≡ lookUp (now (image .entry)) id name ⌝ }
+    ensures { λ r. ⌜ r ≡ lookUpAnswer (now (image .entry)) id name ⌝ }
 {
     let good = names::is_proper(name);
     if good {
@@ -65,7 +65,7 @@ fn look_up_opened(
 
 // The ID beside a name in a directory.
 pub fn look_up(image: &[u8], id: FileId, name: Name) -> Found
-    ensures { λ r. ⌜ r ≡ lookUp (now (image .entry)) id name ⌝ }
+    ensures { λ r. ⌜ r ≡ lookUpAnswer (now (image .entry)) id name ⌝ }
 {
     let mut places = [0u32; 256];
     let file = open(image, &mut places, id);
@@ -85,7 +85,7 @@ pub fn look_up(image: &[u8], id: FileId, name: Name) -> Found
 }
 
 // The answer of a step.
-pub enum Stepped {
+pub enum NextRecordAnswer {
     // The record, and the place to go on from.
     Done(Entry, u32),
     Refused(Refusal),
@@ -100,25 +100,25 @@ fn next_opened(
     lbn: Lbn,
     count: u32,
     place: u32,
-) -> Stepped
+) -> NextRecordAnswer
     requires { ⌜ (openFile (now image) id ≡ Passed) × (v ≡ volumeOf (now image)) × (count ≡ recordCount (now image) (id .number)) × (lbn .0 ≡ slot (now image) (id .number)) × (now places ≡ placesOf (now image)) ⌝ }
-    ensures { λ r. ⌜ r ≡ nextRecord (now (image .entry)) id place ⌝ }
+    ensures { λ r. ⌜ r ≡ nextRecordAnswer (now (image .entry)) id place ⌝ }
 {
     if count <= place {
-        return Stepped::Refused(Refusal::Absent);
+        return NextRecordAnswer::Refused(Refusal::Absent);
     }
     let n = FileNumber(id.number as u32);
     let r = search_file(image, v, places, n, lbn, place, count, Wanted::Any);
     if count <= r {
-        return Stepped::Refused(Refusal::Absent);
+        return NextRecordAnswer::Refused(Refusal::Absent);
     }
     let e = entry_of_file(image, v, places, n, lbn, r);
-    Stepped::Done(e, r + 1)
+    NextRecordAnswer::Done(e, r + 1)
 }
 
 // The next record that is not empty, from a place on; ABSENT where there is none, and in a file that does not open.
-pub fn next_record(image: &[u8], id: FileId, place: u32) -> Stepped
-    ensures { λ r. ⌜ r ≡ nextRecord (now (image .entry)) id place ⌝ }
+pub fn next_record(image: &[u8], id: FileId, place: u32) -> NextRecordAnswer
+    ensures { λ r. ⌜ r ≡ nextRecordAnswer (now (image .entry)) id place ⌝ }
 {
     let mut places = [0u32; 256];
     let file = open(image, &mut places, id);
@@ -133,6 +133,6 @@ pub fn next_record(image: &[u8], id: FileId, place: u32) -> Stepped
             record_count(file.blocks),
             place,
         ),
-        Outcome::Refused(_) => Stepped::Refused(Refusal::Absent),
+        Outcome::Refused(_) => NextRecordAnswer::Refused(Refusal::Absent),
     }
 }

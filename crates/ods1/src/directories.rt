@@ -2,12 +2,12 @@
 use answer::types::FileId;
 use answer::types::Name;
 use directory_words::put_found;
-use directory_words::put_stepped;
+use directory_words::put_next_record;
 use look_up::look_up;
 use look_up::next_record;
 ghost use mathlib.Core.Path.{_≡_};
-ghost use Rattle.look_up.specs.LookUp.{lookUp, nextRecord};
-ghost use Rattle.directory_words.specs.Words.{foundWords, steppedWords};
+ghost use Rattle.look_up.specs.LookUp.{lookUpAnswer, nextRecordAnswer};
+ghost use Rattle.directory_words.specs.Words.{foundWords, nextRecordWords};
 ghost use Rattle.ods1.specs.Arguments.{idOf, ofWords};
 
 // The ID that a directory has under a name, as it is stored.
@@ -24,7 +24,7 @@ pub extern "C" fn ods1_look_up(
     version: u16,
     answer: &mut [u64; 12],
 )
-    ensures { λ _. ⌜ now (answer .exit) ≡ foundWords (lookUp (now (image .entry)) (idOf number sequence volume) (ofWords name1 name2 name3 typ version)) ⌝ }
+    ensures { λ _. ⌜ now (answer .exit) ≡ foundWords (lookUpAnswer (now (image .entry)) (idOf number sequence volume) (ofWords name1 name2 name3 typ version)) ⌝ }
 {
     let found = look_up(
         image,
@@ -54,9 +54,9 @@ pub extern "C" fn ods1_next_record(
     place: u32,
     answer: &mut [u64; 12],
 )
-    ensures { λ _. ⌜ now (answer .exit) ≡ steppedWords (nextRecord (now (image .entry)) (idOf number sequence volume) place) ⌝ }
+    ensures { λ _. ⌜ now (answer .exit) ≡ nextRecordWords (nextRecordAnswer (now (image .entry)) (idOf number sequence volume) place) ⌝ }
 {
-    let stepped = next_record(
+    let result = next_record(
         image,
         FileId {
             number,
@@ -65,5 +65,5 @@ pub extern "C" fn ods1_next_record(
         },
         place,
     );
-    put_stepped(answer, stepped);
+    put_next_record(answer, result);
 }

@@ -7,7 +7,7 @@ use file_words::put_opened_file;
 use mapping::map;
 use open_file::open_file;
 ghost use mathlib.Core.Path.{_≡_};
-ghost use Rattle.open_file.specs.Opening.{openAnswer};
+ghost use Rattle.open_file.specs.Opening.{openFileAnswer};
 ghost use Rattle.mapping.specs.Mapping.{mapAnswer};
 ghost use Rattle.file_words.specs.Words.{openedFileWords, mappedWords, blockWords};
 ghost use Rattle.ods1.specs.Arguments.{idOf};
@@ -21,7 +21,7 @@ pub extern "C" fn ods1_open_file(
     volume: u16,
     answer: &mut [u64; 12],
 )
-    ensures { λ _. ⌜ now (answer .exit) ≡ openedFileWords (openAnswer (now (image .entry)) (idOf number sequence volume)) ⌝ }
+    ensures { λ _. ⌜ now (answer .exit) ≡ openedFileWords (openFileAnswer (now (image .entry)) (idOf number sequence volume)) ⌝ }
 {
     let opened = open_file(
         image,

@@ -8,7 +8,7 @@ use free::free_run;
 use volume_words::put_free;
 ghost use mathlib.Core.Path.{_≡_};
 ghost use Rattle.extents.specs.Extents.{extentAnswer};
-ghost use Rattle.free.specs.Free.{freeRun};
+ghost use Rattle.free.specs.Free.{freeRunAnswer};
 ghost use Rattle.file_words.specs.Words.{extentWords};
 ghost use Rattle.volume_words.specs.Words.{freeWords};
 ghost use Rattle.ods1.specs.Arguments.{idOf};
@@ -25,7 +25,7 @@ pub extern "C" fn ods1_extent(
 )
     ensures { λ _. ⌜ now (answer .exit) ≡ extentWords (extentAnswer (now (image .entry)) (idOf number sequence volume) vbn) ⌝ }
 {
-    let extent = extent_from(
+    let result = extent_from(
         image,
         FileId {
             number,
@@ -34,13 +34,13 @@ pub extern "C" fn ods1_extent(
         },
         Vbn(vbn),
     );
-    put_extent(answer, extent);
+    put_extent(answer, result);
 }
 
 // The first run of free blocks from an LBN on: its first LBN, and how many blocks it has.
 #[no_mangle]
 pub extern "C" fn ods1_free_run(image: &[u8], from: u32, answer: &mut [u64; 12])
-    ensures { λ _. ⌜ now (answer .exit) ≡ freeWords (freeRun (now (image .entry)) from) ⌝ }
+    ensures { λ _. ⌜ now (answer .exit) ≡ freeWords (freeRunAnswer (now (image .entry)) from) ⌝ }
 {
     let found = free_run(image, Lbn(from));
     put_free(answer, found);

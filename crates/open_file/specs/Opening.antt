@@ -65,5 +65,5 @@ openedFile outcome.Passed count = Done count
 openedFile (outcome.Refused r) count = Refused r
 
 -- The answer of opening a file.
-unfoldable pub openAnswer : List ℕ → FileId → OpenedFile
-openAnswer image id = openedFile (openFile image id) (length (fileBlocks image (id .number)))
+unfoldable pub openFileAnswer : List ℕ → FileId → OpenedFile
+openFileAnswer image id = openedFile (openFile image id) (length (fileBlocks image (id .number)))

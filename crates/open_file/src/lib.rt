@@ -27,7 +27,7 @@ ghost use Rattle.volume.specs.Volume.{slot};
 ghost use Rattle.volume.specs.Opening.{Recorded};
 ghost use Rattle.chains.specs.Chains.{IsFirst};
 ghost use Rattle.chains.specs.Finding.{Finds};
-ghost use Rattle.open_file.specs.Opening.{find, access, chained, openFile, Tells, TellsPlaces, openAnswer};
+ghost use Rattle.open_file.specs.Opening.{find, access, chained, openFile, Tells, TellsPlaces, openFileAnswer};
 
 // The answer of opening a file.
 pub enum OpenedFile {
@@ -176,7 +176,7 @@ pub fn open(image: &[u8], places: &mut Places, id: FileId) -> OpenFile
 
 // The answer of opening a file.
 pub fn open_file(image: &[u8], id: FileId) -> OpenedFile
-    ensures { λ r. ⌜ r ≡ openAnswer (now (image .entry)) id ⌝ }
+    ensures { λ r. ⌜ r ≡ openFileAnswer (now (image .entry)) id ⌝ }
 {
     let mut places = [0u32; 256];
     let o = open(image, &mut places, id);

@@ -17,8 +17,8 @@ openedVolume outcome.Passed home = Done (record { 0 = home })
 openedVolume (outcome.Refused r) home = Refused r
 
 -- The answer of opening a volume.
-unfoldable pub volumeAnswer : List ℕ → Opened
-volumeAnswer image = openedVolume (openVolume image) (home image)
+unfoldable pub openVolumeAnswer : List ℕ → Opened
+openVolumeAnswer image = openedVolume (openVolume image) (home image)
 
 -- What opening tells: its outcome and, where that is passed, the volume record.
 abbrev pub TellsVolume : List ℕ → OpenVolume → List ℕ → Type 0

@@ -35,7 +35,7 @@ ghost use Rattle.home.specs.Home.{hIbsz, hIblb, hFmax, blocks, home};
 ghost use Rattle.volume.specs.Volume.{mapBlocks};
 ghost use Rattle.volume.specs.Opening.{sized, homed, geometry, alone, storageMapped, Laid};
 ghost use Rattle.volume.specs.Volume.{mapBlocks};
-ghost use Rattle.open_volume.specs.Answer.{volumeAnswer, TellsVolume};
+ghost use Rattle.open_volume.specs.Answer.{openVolumeAnswer, TellsVolume};
 
 // The answer of opening a volume.
 pub enum Opened {
@@ -241,7 +241,7 @@ pub fn open(image: &[u8], places: &mut Places) -> OpenVolume
 
 // The answer of opening a volume.
 pub fn open_volume(image: &[u8]) -> Opened
-    ensures { λ r. ⌜ r ≡ volumeAnswer (now (image .entry)) ⌝ }
+    ensures { λ r. ⌜ r ≡ openVolumeAnswer (now (image .entry)) ⌝ }
 {
     let mut places = [0u32; 256];
     let o = open(image, &mut places);

@@ -9,21 +9,21 @@ use Rattle.answer.specs.declared.refusal.Refusal.the-variants as refusal
 use Rattle.answer.specs.declared.outcome.Outcome.{Outcome}
 use Rattle.answer.specs.declared.outcome.Outcome.the-variants.{Passed, Refused}
 use Rattle.answer.proofs.RefusalLaws.{refused-number}
-use Rattle.open_file.specs.Opening.{openFile, openedFile, openAnswer}
+use Rattle.open_file.specs.Opening.{openFile, openedFile, openFileAnswer}
 use Rattle.mapping.specs.Mapping.{mapAnswer}
 use Rattle.open_file.proofs.OpeningLaws.{opened}
 use Rattle.mapping.proofs.MappingLaws.{map-refused}
-use Rattle.look_up.specs.LookUp.{lookUp, nextRecord}
+use Rattle.look_up.specs.LookUp.{lookUpAnswer, nextRecordAnswer}
 use Rattle.look_up.proofs.LookUpLaws.{look-refused, next-refused}
-use Rattle.file_facts.specs.Files.{fileAnswer}
-use Rattle.file_facts.proofs.FileLaws.{described-refused}
+use Rattle.file_facts.specs.Files.{attributesAnswer}
+use Rattle.file_facts.proofs.FileLaws.{attributes-refused}
 use Rattle.extents.specs.Extents.{extentAnswer}
 use Rattle.extents.proofs.ExtentLaws.{extent-refused}
 use Rattle.update.specs.Extend.{extendOutcome, extended, extendAnswer}
 use Rattle.update.specs.Delete.{deleteOutcome, deleted, deleteAnswer}
 use Rattle.update.proofs.PassedLaws.{extend-passed, delete-passed}
-use Rattle.file_words.specs.Words.{openedFileWords, mappedWords, blockWords, describedWords, extentWords}
-use Rattle.directory_words.specs.Words.{foundWords, steppedWords}
+use Rattle.file_words.specs.Words.{openedFileWords, mappedWords, blockWords, attributesWords, extentWords}
+use Rattle.directory_words.specs.Words.{foundWords, nextRecordWords}
 use Rattle.change_words.specs.Words.{extendedWords, deletedWords}
 use Rattle.sequence.specs.Sequence.{OtherSequence, IsRefused, SequenceAsked}
 
@@ -40,39 +40,39 @@ module _ (image : List ℕ) (id : FileId) (other : OtherSequence image id) where
       go Passed e = absurd (other (opened image id e .found .sequence))
       go (Refused r) e = record { why = r; is = e }
 
-  open-refused : IsRefused (openedFileWords (openAnswer image id))
-  unfolding openAnswer openedFile
-  open-refused = rw (refuses .is) (refused-number (refuses .why))
+  open-file-asked : IsRefused (openedFileWords (openFileAnswer image id))
+  unfolding openFileAnswer openedFile
+  open-file-asked = rw (refuses .is) (refused-number (refuses .why))
 
-  mapped-refused : (vbn : ℕ) → IsRefused (mappedWords (mapAnswer image id vbn))
-  mapped-refused vbn = rw (map-refused image id vbn (refuses .why) (refuses .is)) (refused-number (refuses .why))
+  map-asked : (vbn : ℕ) → IsRefused (mappedWords (mapAnswer image id vbn))
+  map-asked vbn = rw (map-refused image id vbn (refuses .why) (refuses .is)) (refused-number (refuses .why))
 
-  block-refused : (vbn : ℕ) → IsRefused (blockWords (mapAnswer image id vbn))
-  block-refused vbn = rw (map-refused image id vbn (refuses .why) (refuses .is)) (refused-number (refuses .why))
+  block-asked : (vbn : ℕ) → IsRefused (blockWords (mapAnswer image id vbn))
+  block-asked vbn = rw (map-refused image id vbn (refuses .why) (refuses .is)) (refused-number (refuses .why))
 
-  found-refused : (name : Name) → IsRefused (foundWords (lookUp image id name))
-  found-refused name = rw (look-refused image id name (refuses .why) (refuses .is)) (refused-number (refuses .why))
+  look-up-asked : (name : Name) → IsRefused (foundWords (lookUpAnswer image id name))
+  look-up-asked name = rw (look-refused image id name (refuses .why) (refuses .is)) (refused-number (refuses .why))
 
-  stepped-refused : (place : ℕ) → IsRefused (steppedWords (nextRecord image id place))
-  stepped-refused place = rw (next-refused image id place (refuses .why) (refuses .is)) (refused-number refusal.Absent)
+  next-record-asked : (place : ℕ) → IsRefused (nextRecordWords (nextRecordAnswer image id place))
+  next-record-asked place = rw (next-refused image id place (refuses .why) (refuses .is)) (refused-number refusal.Absent)
 
-  attributes-refused : IsRefused (describedWords (fileAnswer image id))
-  attributes-refused = rw (← described-refused image id (refuses .why) (refuses .is)) (refused-number (refuses .why))
+  attributes-asked : IsRefused (attributesWords (attributesAnswer image id))
+  attributes-asked = rw (← attributes-refused image id (refuses .why) (refuses .is)) (refused-number (refuses .why))
 
-  row-refused : (vbn : ℕ) → IsRefused (extentWords (extentAnswer image id vbn))
-  row-refused vbn = rw (extent-refused image id vbn (refuses .why) (refuses .is)) (refused-number (refuses .why))
+  extent-asked : (vbn : ℕ) → IsRefused (extentWords (extentAnswer image id vbn))
+  extent-asked vbn = rw (extent-refused image id vbn (refuses .why) (refuses .is)) (refused-number (refuses .why))
 
-  extended-refused : (count b h : ℕ) → IsRefused (extendedWords (extendAnswer image id count b h))
+  extend-asked : (count b h : ℕ) → IsRefused (extendedWords (extendAnswer image id count b h))
   unfolding extendAnswer extended
-  extended-refused count b h = go (extendOutcome image id count b h) refl
+  extend-asked count b h = go (extendOutcome image id count b h) refl
     where
       go : (o : Outcome) → extendOutcome image id count b h ≡ o → IsRefused (extendedWords (extendAnswer image id count b h))
       go Passed e = absurd (other (extend-passed image id count b h e .opens .found .sequence))
       go (Refused r) e = rw e (refused-number r)
 
-  deleted-refused : (b h : ℕ) → IsRefused (deletedWords (deleteAnswer image id b h))
+  delete-asked : (b h : ℕ) → IsRefused (deletedWords (deleteAnswer image id b h))
   unfolding deleteAnswer deleted
-  deleted-refused b h = go (deleteOutcome image id b h) refl
+  delete-asked b h = go (deleteOutcome image id b h) refl
     where
       go : (o : Outcome) → deleteOutcome image id b h ≡ o → IsRefused (deletedWords (deleteAnswer image id b h))
       go Passed e = absurd (other (delete-passed image id b h e .opens .found .sequence))
@@ -80,13 +80,13 @@ module _ (image : List ℕ) (id : FileId) (other : OtherSequence image id) where
 
 pub sequence-asked : SequenceAsked
 sequence-asked = record {
-  open-file = open-refused;
-  map = λ image id vbn other. mapped-refused image id other vbn;
-  block = λ image id vbn other. block-refused image id other vbn;
-  look-up = λ image id name other. found-refused image id other name;
-  next-record = λ image id place other. stepped-refused image id other place;
-  attributes = attributes-refused;
-  extent = λ image id vbn other. row-refused image id other vbn;
-  extend = λ image id count b h other. extended-refused image id other count b h;
-  delete = λ image id b h other. deleted-refused image id other b h;
+  open-file = open-file-asked;
+  map = λ image id vbn other. map-asked image id other vbn;
+  block = λ image id vbn other. block-asked image id other vbn;
+  look-up = λ image id name other. look-up-asked image id other name;
+  next-record = λ image id place other. next-record-asked image id other place;
+  attributes = attributes-asked;
+  extent = λ image id vbn other. extent-asked image id other vbn;
+  extend = λ image id count b h other. extend-asked image id other count b h;
+  delete = λ image id b h other. delete-asked image id other b h;
 }

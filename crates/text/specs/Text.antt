@@ -34,8 +34,8 @@ unfoldable pub nameText : Name → List ℕ
 nameText n = textOf (nameCodes n) (codes (n .typ)) (n .version)
 
 -- The answer of the call from words to text, for a buffer of so many bytes. 01, Answer numbers: "Text calls: 28, then 14."
-unfoldable pub nameToText : Name → ℕ → Written
-nameToText n room =
+unfoldable pub nameToTextAnswer : Name → ℕ → Written
+nameToTextAnswer n room =
     cond (ltb room 19) (Refused refusal.Room)
     (cond (proper n) (Done (length (nameText n))) (Refused refusal.Name))
 

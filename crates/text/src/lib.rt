@@ -12,7 +12,7 @@ ghost use Prim.Native.Nat.{_+_, _≤_, _<_};
 ghost use lib.ListN.{length};
 ghost use Rattle.image.specs.Stores.{splice};
 ghost use Rattle.names.specs.Names.{filled, kept};
-ghost use Rattle.text.specs.Text.{decimal, textOf, nameToText, textAfter};
+ghost use Rattle.text.specs.Text.{decimal, textOf, nameToTextAnswer, textAfter};
 
 // The length of a text that was written, or the refusal.
 pub enum Written {
@@ -96,7 +96,7 @@ fn put_name(
 
 // Writes the text of a name into a buffer of at least 19 bytes; the bytes after it stay.
 pub fn name_to_text(n: Name, text: &mut [u8]) -> Written
-    ensures { λ r. ⌜ (r ≡ nameToText n (length (now (text .entry)))) × (now (text .exit) ≡ textAfter n (now (text .entry))) ⌝ }
+    ensures { λ r. ⌜ (r ≡ nameToTextAnswer n (length (now (text .entry)))) × (now (text .exit) ≡ textAfter n (now (text .entry))) ⌝ }
 {
     if text.len() < 19 {
         return Written::Refused(Refusal::Room);

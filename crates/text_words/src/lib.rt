@@ -2,17 +2,17 @@
 // writes.
 use answer::words::put_done;
 use answer::words::put_refused;
-use parse::Named;
+use parse::TextToNameAnswer;
 use text::Written;
 ghost use mathlib.Core.Path.{_≡_};
-ghost use Rattle.text_words.specs.Words.{namedWords, writtenWords};
+ghost use Rattle.text_words.specs.Words.{textToNameWords, writtenWords};
 
 // The words of a name.
-pub fn put_named(answer: &mut [u64; 12], named: Named)
-    ensures { λ _. ⌜ now (answer .exit) ≡ namedWords named ⌝ }
+pub fn put_text_to_name(answer: &mut [u64; 12], result: TextToNameAnswer)
+    ensures { λ _. ⌜ now (answer .exit) ≡ textToNameWords result ⌝ }
 {
-    match named {
-        Named::Done(n) => {
+    match result {
+        TextToNameAnswer::Done(n) => {
             put_done(
                 answer,
                 [
@@ -29,7 +29,7 @@ pub fn put_named(answer: &mut [u64; 12], named: Named)
                 ],
             );
         }
-        Named::Refused(r) => {
+        TextToNameAnswer::Refused(r) => {
             put_refused(answer, r);
         }
     }

@@ -6,7 +6,7 @@ use lib.ListN.{length}
 use Rattle.image.specs.Stores.{zeros}
 use Rattle.answer.specs.declared.outcome.Outcome.{Outcome}
 use Rattle.chains.specs.Chains.{fileBlocks}
-use Rattle.open_file.specs.Opening.{openedFile, openAnswer}
+use Rattle.open_file.specs.Opening.{openedFile, openFileAnswer}
 use Rattle.open_file.proofs.open_file.Statement.{statement}
 use Rattle.open_file.proofs.open_file.Tie as tie
 
@@ -16,14 +16,14 @@ unfolding zeros
 open-requires c κs = refl
 
 returns : tie.Need-returns
-unfolding openAnswer openedFile
+unfolding openFileAnswer openedFile
 returns c =
     let o = c .before .before in
     let p = sym (o .open .ensures .0) ∙ c .enum-told .given .1 in
     sym (ap₂ openedFile p (sym (o .open .ensures .1 p .1)))
 
 returns-2 : tie.Need-returns-2
-unfolding openAnswer openedFile
+unfolding openFileAnswer openedFile
 returns-2 c =
     let r = c .before in
     let o = r .before .before in

@@ -44,7 +44,7 @@ use Rattle.walker.proofs.Walker as T
 use Rattle.walker.proofs.opening as opening
 use Rattle.answer.proofs.types.FileId as F
 use Rattle.answer.proofs.types.FileId.Laws as F′
-use Rattle.open_file.specs.Opening.{openAnswer}
+use Rattle.open_file.specs.Opening.{openFileAnswer}
 use Rattle.open_file.specs.declared.OpenedFile.{OpenedFile}
 use Rattle.open_file.proofs.OpenedFile as S
 use Rattle.open_file.proofs.OpenedFile.Laws as S′
@@ -75,7 +75,7 @@ module _ {M : Type 1} (𝓤 : URA M) (H : Heap 𝓤) (A : Atoms 𝓤) (W : Given
   mach = T′.lowered d
 
   abbrev found : OpenedFile
-  found = openAnswer (now (d .image)) (d .id)
+  found = openFileAnswer (now (d .image)) (d .id)
 
   abbrev Post : Val → SProp 𝓤
   Post = walkOf 𝓤 H A opening.ended stayed (opening.clauses 𝓤 H A mem run) .post (((κ, tt), (q, tt), tt, (d, tt), (mach ∷ [], tt)), tt)

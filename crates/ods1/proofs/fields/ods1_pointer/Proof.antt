@@ -6,7 +6,7 @@ use Rattle.ods1.proofs.fields.ods1_pointer.Statement.{statement}
 use Rattle.ods1.proofs.fields.ods1_pointer.Tie as tie
 
 returns : tie.Need-returns
-returns c = c .put-pointed .ensures ∙ ap pointedWords (c .before .before .show-pointer .ensures)
+returns c = c .put-pointed .ensures ∙ ap pointedWords (c .before .before .pointer .ensures)
 
 pub ods1-pointer-spec : {M : Type 1} → statement M
 ods1-pointer-spec = tie.close (tie.spec (search needs) (search needs) returns)
