@@ -5,7 +5,9 @@ use lib.Dec.{ltb}
 use Rattle.answer.specs.declared.refusal.Refusal.the-variants as refusal
 use Rattle.answer.specs.declared.outcome.Outcome.{Outcome}
 use Rattle.answer.specs.declared.outcome.Outcome.the-variants as outcome
+use Rattle.answer.specs.declared.answers.RunAnswer.{RunAnswer}
 use Rattle.answer.specs.Outcome.{unless, _then_}
+use Rattle.answer.specs.Answers.{runAnswer}
 use Rattle.header.specs.Fields.{hFseq, segment, mEfnu, mEfsq}
 use Rattle.header.specs.Ident.{identName}
 use Rattle.pointers.specs.Pointers.{pointerLbn, pointerCount, pointers, pointerAt}
@@ -15,8 +17,6 @@ use Rattle.chains.specs.Finding.{findNumber}
 use Rattle.header_facts.specs.declared.types.Header.{Header}
 use Rattle.header_facts.specs.declared.types.HeaderAnswer.{HeaderAnswer}
 use Rattle.header_facts.specs.declared.types.HeaderAnswer.the-variants as headers
-use Rattle.header_facts.specs.declared.Pointed.{Pointed}
-use Rattle.header_facts.specs.declared.Pointed.the-variants as pointed
 
 -- Every call on a volume opens it first; 01, Answer numbers: 1 to 5, then 7 and 8.
 unfoldable pub findHeader : List ℕ → ℕ → Outcome
@@ -45,13 +45,9 @@ headerAnswer image n = headerBy (findHeader image n) (factsOf (header image n))
 unfoldable pub findPointer : List ℕ → ℕ → ℕ → Outcome
 findPointer image n p = findHeader image n then unless (ltb p (pointers (header image n))) refusal.Absent
 
-unfoldable pub pointedBy : Outcome → ℕ → ℕ → Pointed
-pointedBy outcome.Passed lbn count = pointed.Done (record { 0 = lbn }) count
-pointedBy (outcome.Refused r) lbn count = pointed.Refused r
-
 -- The first LBN that retrieval pointer p of the header in the slot of number n covers, and how many it covers. 01, The header: "count c covers c+1
 -- blocks".
-unfoldable pub pointerAnswer : List ℕ → ℕ → ℕ → Pointed
+unfoldable pub pointerAnswer : List ℕ → ℕ → ℕ → RunAnswer
 pointerAnswer image n p =
     let h = header image n in
-    pointedBy (findPointer image n p) (pointerLbn h (pointerAt h p)) (pointerCount h (pointerAt h p))
+    runAnswer (findPointer image n p) (pointerLbn h (pointerAt h p)) (pointerCount h (pointerAt h p))

@@ -1,6 +1,7 @@
 // What the header of a file number in use says: its place in a chain, its name, its retrieval pointers.
 use crate::types::Header;
 use crate::types::HeaderAnswer;
+use answer::answers::RunAnswer;
 use answer::outcome::Outcome;
 use answer::refusal::Refusal;
 use answer::types::FileNumber;
@@ -28,13 +29,6 @@ ghost use Rattle.volume.specs.Opening.{Recorded};
 ghost use Rattle.header_facts.specs.Headers.{factsOf, headerAnswer, pointerAnswer};
 
 pub mod types;
-
-// The answer of asking for a retrieval pointer.
-pub enum Pointed {
-    // The first LBN that it covers, and how many it covers.
-    Done(Lbn, u32),
-    Refused(Refusal),
-}
 
 // What a header says that has all of its ident area.
 fn facts_of(h: &[u8]) -> Header
@@ -81,7 +75,7 @@ pub fn header(image: &[u8], n: FileNumber) -> HeaderAnswer
 }
 
 // Retrieval pointer p, from 0, of the header of a file number, on an opened volume; ABSENT past the last.
-fn pointer_on(image: &[u8], v: Volume, places: &Places, n: FileNumber, p: u32) -> Pointed
+fn pointer_on(image: &[u8], v: Volume, places: &Places, n: FileNumber, p: u32) -> RunAnswer
     requires { ⌜ Recorded (now image) v (now places) ⌝ }
     ensures { λ r. ⌜ r ≡ pointerAnswer (now (image .entry)) (n .0) p ⌝ }
 {
@@ -93,17 +87,17 @@ fn pointer_on(image: &[u8], v: Volume, places: &Places, n: FileNumber, p: u32) -
         Outcome::Passed => {
             let h = block(image, lbn.0);
             if (pointer_number(h) as u32) <= p {
-                return Pointed::Refused(Refusal::Absent);
+                return RunAnswer::Refused(Refusal::Absent);
             }
             let at = first_pointer(h) + 4 * (p as usize);
-            Pointed::Done(Lbn(pointer_lbn(h, at)), pointer_count(h, at))
+            RunAnswer::Done(Lbn(pointer_lbn(h, at)), pointer_count(h, at))
         }
-        Outcome::Refused(r) => Pointed::Refused(r),
+        Outcome::Refused(r) => RunAnswer::Refused(r),
     }
 }
 
 // Retrieval pointer p, from 0, of the header of a file number in use; ABSENT past the last.
-pub fn pointer(image: &[u8], n: FileNumber, p: u32) -> Pointed
+pub fn pointer(image: &[u8], n: FileNumber, p: u32) -> RunAnswer
     ensures { λ r. ⌜ r ≡ pointerAnswer (now (image .entry)) (n .0) p ⌝ }
 {
     let mut places = [0u32; 256];
@@ -112,6 +106,6 @@ pub fn pointer(image: &[u8], n: FileNumber, p: u32) -> Pointed
     let result = opened.outcome;
     match result {
         Outcome::Passed => pointer_on(image, v, &places, n, p),
-        Outcome::Refused(r) => Pointed::Refused(r),
+        Outcome::Refused(r) => RunAnswer::Refused(r),
     }
 }

@@ -4,8 +4,6 @@ use mathlib.Core.List.{List, [], _∷_}
 use Rattle.answer.specs.Words.{doneWords, refusedWords}
 use Rattle.header_facts.specs.declared.types.HeaderAnswer.{HeaderAnswer}
 use Rattle.header_facts.specs.declared.types.HeaderAnswer.the-variants as headers
-use Rattle.header_facts.specs.declared.Pointed.{Pointed}
-use Rattle.header_facts.specs.declared.Pointed.the-variants as pointed
 
 -- H.FSEQ, segment number, M.EFNU, M.EFSQ, how many retrieval pointers, and the five words of the name in the ident area.
 abbrev pub headerWords : HeaderAnswer → List ℕ
@@ -23,8 +21,3 @@ headerWords (headers.Done f) =
     ∷ f .name .version
     ∷ [])
 headerWords (headers.Refused r) = refusedWords r
-
--- The first LBN that the retrieval pointer covers, and how many it covers.
-abbrev pub pointedWords : Pointed → List ℕ
-pointedWords (pointed.Done lbn count) = doneWords (lbn .0 ∷ count ∷ [])
-pointedWords (pointed.Refused r) = refusedWords r

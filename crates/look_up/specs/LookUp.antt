@@ -7,14 +7,14 @@ use Rattle.answer.specs.declared.types.Name.{Name}
 use Rattle.answer.specs.declared.refusal.Refusal.the-variants as refusal
 use Rattle.answer.specs.declared.outcome.Outcome.{Outcome}
 use Rattle.answer.specs.declared.outcome.Outcome.the-variants as outcome
+use Rattle.answer.specs.declared.answers.IdAnswer.{IdAnswer}
 use Rattle.answer.specs.Outcome.{unless, _then_}
+use Rattle.answer.specs.Answers.{idAnswer}
 use Rattle.names.specs.Names.{proper}
 use Rattle.records.specs.declared.Entry.{Entry}
 use Rattle.records.specs.declared.Wanted.the-variants.{Any, Named}
 use Rattle.open_file.specs.Opening.{openFile}
 use Rattle.directory.specs.Search.{recordCount, firstWanted, entryOfFile}
-use Rattle.look_up.specs.declared.Found.{Found}
-use Rattle.look_up.specs.declared.Found.the-variants as found
 use Rattle.look_up.specs.declared.NextRecordAnswer.{NextRecordAnswer}
 use Rattle.look_up.specs.declared.NextRecordAnswer.the-variants as answers
 
@@ -25,13 +25,9 @@ findName image id name =
     then unless (proper name) refusal.Name
     then unless (ltb (firstWanted image (id .number) (Named name) 0) (recordCount image (id .number))) refusal.Absent
 
-unfoldable pub foundEntry : Outcome → FileId → Found
-foundEntry outcome.Passed id = found.Done id
-foundEntry (outcome.Refused r) id = found.Refused r
-
 -- 01, Names and directories: "Look-up gives the ID of the first equal record not empty, in VBN order, as stored, opened or not."
-unfoldable pub lookUpAnswer : List ℕ → FileId → Name → Found
-lookUpAnswer image id name = foundEntry (findName image id name) (entryOfFile image (id .number) (firstWanted image (id .number) (Named name) 0) .id)
+unfoldable pub lookUpAnswer : List ℕ → FileId → Name → IdAnswer
+lookUpAnswer image id name = idAnswer (findName image id name) (entryOfFile image (id .number) (firstWanted image (id .number) (Named name) 0) .id)
 
 -- 01, Names and directories, of the walker: "opening one answers as opening its file does, and if refused it is there at once", past the last
 -- record. So a step in a file that does not open is ABSENT.

@@ -1,4 +1,5 @@
 // The two calls on a directory: look-up by name, and the next record.
+use answer::answers::IdAnswer;
 use answer::outcome::Outcome;
 use answer::refusal::Refusal;
 use answer::types::FileId;
@@ -20,13 +21,6 @@ ghost use Rattle.open_file.specs.Opening.{openFile};
 ghost use Rattle.directory.specs.Search.{recordCount};
 ghost use Rattle.look_up.specs.LookUp.{lookUpAnswer, nextRecordAnswer};
 
-// The answer of a look-up.
-pub enum Found {
-    // The ID as it is stored.
-    Done(FileId),
-    Refused(Refusal),
-}
-
 // A look-up in a directory that opens, of so many records: NAME, ABSENT.
 fn look_up_opened(
     image: &[u8],
@@ -36,7 +30,7 @@ fn look_up_opened(
     lbn: Lbn,
     count: u32,
     name: Name,
-) -> Found
+) -> IdAnswer
     requires { ⌜ (openFile (now image) id ≡ Passed) × (v ≡ volumeOf (now image)) × (count ≡ recordCount (now image) (id .number)) × (lbn .0 ≡ slot (now image) (id .number)) × (now places ≡ placesOf (now image)) ⌝ }
     ensures { λ r. ⌜ r ≡ lookUpAnswer (now (image .entry)) id name ⌝ }
 {
@@ -54,17 +48,17 @@ fn look_up_opened(
             Wanted::Named(name),
         );
         if count <= r {
-            return Found::Refused(Refusal::Absent);
+            return IdAnswer::Refused(Refusal::Absent);
         }
         let e = entry_of_file(image, v, places, FileNumber(n), lbn, r);
         let stored = e.id;
-        return Found::Done(stored);
+        return IdAnswer::Done(stored);
     }
-    Found::Refused(Refusal::Name)
+    IdAnswer::Refused(Refusal::Name)
 }
 
 // The ID beside a name in a directory.
-pub fn look_up(image: &[u8], id: FileId, name: Name) -> Found
+pub fn look_up(image: &[u8], id: FileId, name: Name) -> IdAnswer
     ensures { λ r. ⌜ r ≡ lookUpAnswer (now (image .entry)) id name ⌝ }
 {
     let mut places = [0u32; 256];
@@ -80,7 +74,7 @@ pub fn look_up(image: &[u8], id: FileId, name: Name) -> Found
             record_count(file.blocks),
             name,
         ),
-        Outcome::Refused(r) => Found::Refused(r),
+        Outcome::Refused(r) => IdAnswer::Refused(r),
     }
 }
 

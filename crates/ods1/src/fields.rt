@@ -1,12 +1,12 @@
 // What a volume, a header and a file say of themselves.
 use answer::types::FileId;
 use answer::types::FileNumber;
+use answer_words::put_run;
 use file_facts::attributes;
 use file_words::put_attributes;
 use header_facts::header;
 use header_facts::pointer;
 use header_words::put_header;
-use header_words::put_pointed;
 use volume_facts::geometry;
 use volume_facts::label;
 use volume_words::put_geometry;
@@ -15,8 +15,9 @@ ghost use mathlib.Core.Path.{_≡_};
 ghost use Rattle.volume_facts.specs.Volumes.{geometryAnswer, labelAnswer};
 ghost use Rattle.header_facts.specs.Headers.{headerAnswer, pointerAnswer};
 ghost use Rattle.file_facts.specs.Files.{attributesAnswer};
+ghost use Rattle.answer_words.specs.Words.{runWords};
 ghost use Rattle.volume_words.specs.Words.{geometryWords, labelWords};
-ghost use Rattle.header_words.specs.Words.{headerWords, pointedWords};
+ghost use Rattle.header_words.specs.Words.{headerWords};
 ghost use Rattle.file_words.specs.Words.{attributesWords};
 ghost use Rattle.ods1.specs.Arguments.{idOf};
 
@@ -50,10 +51,10 @@ pub extern "C" fn ods1_header(image: &[u8], number: u16, answer: &mut [u64; 12])
 // A retrieval pointer of the header of a file number in use: its first LBN, and how many blocks it covers.
 #[no_mangle]
 pub extern "C" fn ods1_pointer(image: &[u8], number: u16, place: u32, answer: &mut [u64; 12])
-    ensures { λ _. ⌜ now (answer .exit) ≡ pointedWords (pointerAnswer (now (image .entry)) number place) ⌝ }
+    ensures { λ _. ⌜ now (answer .exit) ≡ runWords (pointerAnswer (now (image .entry)) number place) ⌝ }
 {
     let result = pointer(image, FileNumber(number as u32), place);
-    put_pointed(answer, result);
+    put_run(answer, result);
 }
 
 // What an opened file says of itself: blocks, end of file, owner, protection, flags, attributes.

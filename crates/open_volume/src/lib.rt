@@ -1,4 +1,5 @@
 // Opening a volume: SIZE, HOME, GEOMETRY, INDEX, STORAGE, in this order.
+use answer::answers::LbnAnswer;
 use answer::outcome::Outcome;
 use answer::refusal::Refusal;
 use answer::types::Lbn;
@@ -36,13 +37,6 @@ ghost use Rattle.volume.specs.Volume.{mapBlocks};
 ghost use Rattle.volume.specs.Opening.{sized, homed, geometry, alone, storageMapped, Laid};
 ghost use Rattle.volume.specs.Volume.{mapBlocks};
 ghost use Rattle.open_volume.specs.Answer.{openVolumeAnswer, TellsVolume};
-
-// The answer of opening a volume.
-pub enum Opened {
-    // The LBN of the home.
-    Done(Lbn),
-    Refused(Refusal),
-}
 
 // Passed, and what calls on the volume need to know; or refused.
 pub struct OpenVolume {
@@ -240,14 +234,14 @@ pub fn open(image: &[u8], places: &mut Places) -> OpenVolume
 }
 
 // The answer of opening a volume.
-pub fn open_volume(image: &[u8]) -> Opened
+pub fn open_volume(image: &[u8]) -> LbnAnswer
     ensures { λ r. ⌜ r ≡ openVolumeAnswer (now (image .entry)) ⌝ }
 {
     let mut places = [0u32; 256];
     let o = open(image, &mut places);
     let result = o.outcome;
     match result {
-        Outcome::Passed => Opened::Done(Lbn(o.volume.home)),
-        Outcome::Refused(r) => Opened::Refused(r),
+        Outcome::Passed => LbnAnswer::Done(Lbn(o.volume.home)),
+        Outcome::Refused(r) => LbnAnswer::Refused(r),
     }
 }

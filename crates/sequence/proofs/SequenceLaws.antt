@@ -8,8 +8,9 @@ use Rattle.answer.specs.declared.refusal.Refusal.{Refusal}
 use Rattle.answer.specs.declared.refusal.Refusal.the-variants as refusal
 use Rattle.answer.specs.declared.outcome.Outcome.{Outcome}
 use Rattle.answer.specs.declared.outcome.Outcome.the-variants.{Passed, Refused}
+use Rattle.answer.specs.Answers.{lbnAnswer, countAnswer, bareAnswer}
 use Rattle.answer.proofs.RefusalLaws.{refused-number}
-use Rattle.open_file.specs.Opening.{openFile, openedFile, openFileAnswer}
+use Rattle.open_file.specs.Opening.{openFile, openFileAnswer}
 use Rattle.mapping.specs.Mapping.{mapAnswer}
 use Rattle.open_file.proofs.OpeningLaws.{opened}
 use Rattle.mapping.proofs.MappingLaws.{map-refused}
@@ -19,12 +20,12 @@ use Rattle.file_facts.specs.Files.{attributesAnswer}
 use Rattle.file_facts.proofs.FileLaws.{attributes-refused}
 use Rattle.extents.specs.Extents.{extentAnswer}
 use Rattle.extents.proofs.ExtentLaws.{extent-refused}
-use Rattle.update.specs.Extend.{extendOutcome, extended, extendAnswer}
-use Rattle.update.specs.Delete.{deleteOutcome, deleted, deleteAnswer}
+use Rattle.update.specs.Extend.{extendOutcome, extendAnswer}
+use Rattle.update.specs.Delete.{deleteOutcome, deleteAnswer}
 use Rattle.update.proofs.PassedLaws.{extend-passed, delete-passed}
-use Rattle.file_words.specs.Words.{openedFileWords, mappedWords, blockWords, attributesWords, extentWords}
-use Rattle.directory_words.specs.Words.{foundWords, nextRecordWords}
-use Rattle.change_words.specs.Words.{extendedWords, deletedWords}
+use Rattle.answer_words.specs.Words.{lbnWords, idWords, runWords, countWords, bareWords}
+use Rattle.file_words.specs.Words.{blockWords, attributesWords}
+use Rattle.directory_words.specs.Words.{nextRecordWords}
 use Rattle.sequence.specs.Sequence.{OtherSequence, IsRefused, SequenceAsked}
 
 -- What opening a file is refused with.
@@ -40,17 +41,17 @@ module _ (image : List ℕ) (id : FileId) (other : OtherSequence image id) where
       go Passed e = absurd (other (opened image id e .found .sequence))
       go (Refused r) e = record { why = r; is = e }
 
-  open-file-asked : IsRefused (openedFileWords (openFileAnswer image id))
-  unfolding openFileAnswer openedFile
+  open-file-asked : IsRefused (countWords (openFileAnswer image id))
+  unfolding openFileAnswer countAnswer
   open-file-asked = rw (refuses .is) (refused-number (refuses .why))
 
-  map-asked : (vbn : ℕ) → IsRefused (mappedWords (mapAnswer image id vbn))
+  map-asked : (vbn : ℕ) → IsRefused (lbnWords (mapAnswer image id vbn))
   map-asked vbn = rw (map-refused image id vbn (refuses .why) (refuses .is)) (refused-number (refuses .why))
 
   block-asked : (vbn : ℕ) → IsRefused (blockWords (mapAnswer image id vbn))
   block-asked vbn = rw (map-refused image id vbn (refuses .why) (refuses .is)) (refused-number (refuses .why))
 
-  look-up-asked : (name : Name) → IsRefused (foundWords (lookUpAnswer image id name))
+  look-up-asked : (name : Name) → IsRefused (idWords (lookUpAnswer image id name))
   look-up-asked name = rw (look-refused image id name (refuses .why) (refuses .is)) (refused-number (refuses .why))
 
   next-record-asked : (place : ℕ) → IsRefused (nextRecordWords (nextRecordAnswer image id place))
@@ -59,22 +60,22 @@ module _ (image : List ℕ) (id : FileId) (other : OtherSequence image id) where
   attributes-asked : IsRefused (attributesWords (attributesAnswer image id))
   attributes-asked = rw (← attributes-refused image id (refuses .why) (refuses .is)) (refused-number (refuses .why))
 
-  extent-asked : (vbn : ℕ) → IsRefused (extentWords (extentAnswer image id vbn))
+  extent-asked : (vbn : ℕ) → IsRefused (runWords (extentAnswer image id vbn))
   extent-asked vbn = rw (extent-refused image id vbn (refuses .why) (refuses .is)) (refused-number (refuses .why))
 
-  extend-asked : (count b h : ℕ) → IsRefused (extendedWords (extendAnswer image id count b h))
-  unfolding extendAnswer extended
+  extend-asked : (count b h : ℕ) → IsRefused (lbnWords (extendAnswer image id count b h))
+  unfolding extendAnswer lbnAnswer
   extend-asked count b h = go (extendOutcome image id count b h) refl
     where
-      go : (o : Outcome) → extendOutcome image id count b h ≡ o → IsRefused (extendedWords (extendAnswer image id count b h))
+      go : (o : Outcome) → extendOutcome image id count b h ≡ o → IsRefused (lbnWords (extendAnswer image id count b h))
       go Passed e = absurd (other (extend-passed image id count b h e .opens .found .sequence))
       go (Refused r) e = rw e (refused-number r)
 
-  delete-asked : (b h : ℕ) → IsRefused (deletedWords (deleteAnswer image id b h))
-  unfolding deleteAnswer deleted
+  delete-asked : (b h : ℕ) → IsRefused (bareWords (deleteAnswer image id b h))
+  unfolding deleteAnswer bareAnswer
   delete-asked b h = go (deleteOutcome image id b h) refl
     where
-      go : (o : Outcome) → deleteOutcome image id b h ≡ o → IsRefused (deletedWords (deleteAnswer image id b h))
+      go : (o : Outcome) → deleteOutcome image id b h ≡ o → IsRefused (bareWords (deleteAnswer image id b h))
       go Passed e = absurd (other (delete-passed image id b h e .opens .found .sequence))
       go (Refused r) e = rw e (refused-number r)
 

@@ -1,11 +1,9 @@
-// The answer words of the calls that turn names into text and text into names: each answer as the twelve words that an exported call
-// writes.
+// The answer words of the call that turns text into a name: its answer as the twelve words that an exported call writes.
 use answer::words::put_done;
 use answer::words::put_refused;
 use parse::TextToNameAnswer;
-use text::Written;
 ghost use mathlib.Core.Path.{_≡_};
-ghost use Rattle.text_words.specs.Words.{textToNameWords, writtenWords};
+ghost use Rattle.text_words.specs.Words.{textToNameWords};
 
 // The words of a name.
 pub fn put_text_to_name(answer: &mut [u64; 12], result: TextToNameAnswer)
@@ -30,20 +28,6 @@ pub fn put_text_to_name(answer: &mut [u64; 12], result: TextToNameAnswer)
             );
         }
         TextToNameAnswer::Refused(r) => {
-            put_refused(answer, r);
-        }
-    }
-}
-
-// The words of a text that was written.
-pub fn put_written(answer: &mut [u64; 12], written: Written)
-    ensures { λ _. ⌜ now (answer .exit) ≡ writtenWords written ⌝ }
-{
-    match written {
-        Written::Done(length) => {
-            put_done(answer, [length as u64, 0, 0, 0, 0, 0, 0, 0, 0, 0]);
-        }
-        Written::Refused(r) => {
             put_refused(answer, r);
         }
     }

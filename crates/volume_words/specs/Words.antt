@@ -2,19 +2,10 @@
 use Prim.Native.Nat.{ℕ}
 use mathlib.Core.List.{List, [], _∷_}
 use Rattle.answer.specs.Words.{doneWords, refusedWords}
-use Rattle.open_volume.specs.declared.Opened.{Opened}
-use Rattle.open_volume.specs.declared.Opened.the-variants as opened
-use Rattle.free.specs.declared.Free.{Free}
-use Rattle.free.specs.declared.Free.the-variants as free
 use Rattle.volume_facts.specs.declared.types.GeometryAnswer.{GeometryAnswer}
 use Rattle.volume_facts.specs.declared.types.GeometryAnswer.the-variants as geometries
 use Rattle.volume_facts.specs.declared.types.LabelAnswer.{LabelAnswer}
 use Rattle.volume_facts.specs.declared.types.LabelAnswer.the-variants as labels
-
--- 01, Answer numbers: DONE has as value "the home LBN (open volume)".
-abbrev pub openedWords : Opened → List ℕ
-openedWords (opened.Done lbn) = doneWords (lbn .0 ∷ [])
-openedWords (opened.Refused r) = refusedWords r
 
 -- N, the home's LBN, H.IBSZ, H.IBLB, H.FMAX, how many numbers have a slot, LBN and number of the blocks of the storage map's bits, H.VLEV, how many
 -- headers the index file has.
@@ -50,8 +41,3 @@ labelWords (labels.Done l) =
     ∷ l .«default_protection»
     ∷ [])
 labelWords (labels.Refused r) = refusedWords r
-
--- The first LBN of the run, and how many blocks it has.
-abbrev pub freeWords : Free → List ℕ
-freeWords (free.Done lbn count) = doneWords (lbn .0 ∷ count ∷ [])
-freeWords (free.Refused r) = refusedWords r

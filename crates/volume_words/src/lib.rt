@@ -1,27 +1,10 @@
 // The answer words of the calls on a volume.
 use answer::words::put_done;
 use answer::words::put_refused;
-use free::Free;
-use open_volume::Opened;
 use volume_facts::types::GeometryAnswer;
 use volume_facts::types::LabelAnswer;
 ghost use mathlib.Core.Path.{_≡_};
-ghost use Rattle.volume_words.specs.Words.{openedWords, geometryWords, labelWords, freeWords};
-
-// The words of a volume that was opened.
-pub fn put_opened(answer: &mut [u64; 12], opened: Opened)
-    ensures { λ _. ⌜ now (answer .exit) ≡ openedWords opened ⌝ }
-{
-    match opened {
-        Opened::Done(lbn) => {
-            let home = lbn.0;
-            put_done(answer, [home as u64, 0, 0, 0, 0, 0, 0, 0, 0, 0]);
-        }
-        Opened::Refused(r) => {
-            put_refused(answer, r);
-        }
-    }
-}
+ghost use Rattle.volume_words.specs.Words.{geometryWords, labelWords};
 
 // The words of where the parts of a volume lie.
 pub fn put_geometry(answer: &mut [u64; 12], result: GeometryAnswer)
@@ -74,21 +57,6 @@ pub fn put_label(answer: &mut [u64; 12], result: LabelAnswer)
             );
         }
         LabelAnswer::Refused(r) => {
-            put_refused(answer, r);
-        }
-    }
-}
-
-// The words of a run of free blocks.
-pub fn put_free(answer: &mut [u64; 12], found: Free)
-    ensures { λ _. ⌜ now (answer .exit) ≡ freeWords found ⌝ }
-{
-    match found {
-        Free::Done(lbn, count) => {
-            let free = lbn.0;
-            put_done(answer, [free as u64, count as u64, 0, 0, 0, 0, 0, 0, 0, 0]);
-        }
-        Free::Refused(r) => {
             put_refused(answer, r);
         }
     }

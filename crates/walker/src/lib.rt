@@ -1,10 +1,10 @@
 // A walk over the records of a directory: a struct that keeps the image it reads and its record place, and thin functions over it. The
 // borrow checker covers no function over a struct that holds a reference, so each is proved by hand; the work is done by `open_file`,
 // `next_record` and `place_after`, which take plain data and slices and are covered.
+use answer::answers::CountAnswer;
 use answer::types::FileId;
 use look_up::NextRecordAnswer;
 use look_up::next_record;
-use open_file::OpenedFile;
 use open_file::open_file;
 ghost use mathlib.Core.Path.{_≡_};
 ghost use Rattle.open_file.specs.Opening.{openFileAnswer};
@@ -30,7 +30,7 @@ pub fn open<'a>(image: &'a [u8], id: FileId) -> Walker<'a>
 }
 
 // The answer of opening the walk: that of opening its file.
-pub fn opening<'a>(w: Walker<'a>) -> OpenedFile
+pub fn opening<'a>(w: Walker<'a>) -> CountAnswer
     ensures { λ r. ⌜ r ≡ openFileAnswer (now (w .entry .image)) (w .entry .id) ⌝ }
 {
     open_file(w.image, w.id)
