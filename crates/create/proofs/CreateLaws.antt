@@ -1,4 +1,4 @@
--- Laws of create: what its tests come to, and what it answers where they refuse.
+-- Laws of create: what its tests come to.
 use mathlib.Core.Path.{_≡_}
 use mathlib.Core.Bool.{true, false}
 use mathlib.Core.List.{List}
@@ -6,18 +6,15 @@ use Prim.Native.Nat.{ℕ, _≤_, _<_}
 use borrow.Author.Tests.{le-leb, lt-leb}
 use Rattle.answer.specs.declared.refusal.Refusal.the-variants as refusal
 use Rattle.answer.specs.declared.refusal.Refusal.{Refusal}
-use Rattle.answer.specs.declared.outcome.Outcome.{Outcome}
 use Rattle.answer.specs.declared.outcome.Outcome.the-variants as outcome
-use Rattle.answer.specs.declared.types.FileId.{FileId}
 use Rattle.answer.specs.declared.types.Name.{Name}
 use Rattle.answer.specs.Outcome.{unless, _then_}
 use Rattle.answer.proofs.OutcomeLaws.{then-passed, then-refused}
 use Rattle.names.specs.Names.{proper}
 use Rattle.volume.specs.Volume.{fmax}
 use Rattle.verdict.specs.Verdict.{verdict}
-use Rattle.update.specs.declared.answers.Created.the-variants.{Refused}
 use Rattle.spare_number.specs.SpareNumber.{spareNumber}
-use Rattle.update.specs.Create.{createOutcome, created, createTests}
+use Rattle.update.specs.Create.{createOutcome, createTests}
 
 -- The tests, in their order.
 module _ (image : List ℕ) (name : Name) where
@@ -32,11 +29,6 @@ module _ (image : List ℕ) (name : Name) where
   pub tests-passed : proper name ≡ true → spareNumber image ≤ fmax image → createTests image name ≡ outcome.Passed
   unfolding createTests unless _then_
   tests-passed e l = rw (e, le-leb (spareNumber image) (fmax image) l)
-
--- What is answered where the tests refuse.
-pub answer-refused : (o : Outcome) (r : Refusal) (id : FileId) → o ≡ outcome.Refused r → Refused r ≡ created o id
-unfolding created
-answer-refused o r id e = rw e
 
 -- The verdict comes first.
 module _ (image : List ℕ) (name : Name) (b h : ℕ) where

@@ -1,4 +1,5 @@
 // Create: the header of a new file and its index bit, under the lowest spare number.
+use answer::answers::IdAnswer;
 use answer::outcome::Outcome;
 use answer::refusal::Refusal;
 use answer::types::FileId;
@@ -11,7 +12,6 @@ use image::blocks::block;
 use names::is_proper;
 use spare_number::spare_number;
 use stores::put_map_bit;
-use update::answers::Created;
 use verdict::judge_volume;
 use volume::Places;
 use volume::Volume;
@@ -20,10 +20,11 @@ ghost use mathlib.Core.Path.{_≡_};
 ghost use Prim.Native.Nat.{_+_, _*_, _≤_};
 ghost use lib.ListN.{length};
 ghost use Rattle.image.specs.Stores.{putBlock};
+ghost use Rattle.answer.specs.Answers.{idAnswer};
 ghost use Rattle.fresh_header.specs.Fresh.{freshHeader};
 ghost use Rattle.volume.specs.Opening.{Recorded};
 ghost use Rattle.verdict.specs.Verdict.{afterwards, headerMarks, blockMarks};
-ghost use Rattle.update.specs.Create.{newId, created, createAnswer, withFile, createImage, createTests};
+ghost use Rattle.update.specs.Create.{newId, createAnswer, withFile, createImage, createTests};
 ghost use Rattle.spare_number.specs.SpareNumber.{spareNumber};
 
 // The block with an LBN made the header of a new file.
@@ -76,20 +77,20 @@ pub fn create_on(
     name: Name,
     owner: u16,
     protection: u16,
-) -> Created
+) -> IdAnswer
     requires { ⌜ Recorded (now image) v (now places) ⌝ }
-    ensures { λ r. ⌜ (r ≡ created (createTests (now (image .entry)) name) (newId (now (image .entry))))
+    ensures { λ r. ⌜ (r ≡ idAnswer (createTests (now (image .entry)) name) (newId (now (image .entry))))
         × (now (image .exit) ≡ afterwards (createTests (now (image .entry)) name) (now (image .entry)) (withFile (now (image .entry)) name owner protection)) ⌝ }
 {
     let good = is_proper(name);
     if !good {
-        return Created::Refused(Refusal::Name);
+        return IdAnswer::Refused(Refusal::Name);
     }
     let n = spare_number(image, v, places);
     if v.fmax < n.0 {
-        return Created::Refused(Refusal::Nonumber);
+        return IdAnswer::Refused(Refusal::Nonumber);
     }
-    Created::Done(put_file(image, v, places, n, name, owner, protection))
+    IdAnswer::Done(put_file(image, v, places, n, name, owner, protection))
 }
 
 // Create. The marks are those of the image before it.
@@ -100,7 +101,7 @@ pub fn create(
     protection: u16,
     area: &mut [u8],
     headers: &mut [u8],
-) -> Created
+) -> IdAnswer
     ensures { λ r. ⌜ (r ≡ createAnswer (now (image .entry)) name (length (now (area .entry))) (length (now (headers .entry))))
         × (now (image .exit) ≡ createImage (now (image .entry)) name owner protection (length (now (area .entry))) (length (now (headers .entry))))
         × (now (area .exit) ≡ blockMarks (now (image .entry)) (now (area .entry)) (now (headers .entry)))
@@ -111,6 +112,6 @@ pub fn create(
     let outcome = j.outcome;
     match outcome {
         Outcome::Passed => create_on(image, j.volume, &places, name, owner, protection),
-        Outcome::Refused(r) => Created::Refused(r),
+        Outcome::Refused(r) => IdAnswer::Refused(r),
     }
 }

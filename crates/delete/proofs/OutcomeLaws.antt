@@ -8,14 +8,15 @@ use Rattle.answer.specs.declared.refusal.Refusal.{Refusal}
 use Rattle.answer.specs.declared.refusal.Refusal.the-variants as refusal
 use Rattle.answer.specs.declared.outcome.Outcome.{Outcome}
 use Rattle.answer.specs.declared.outcome.Outcome.the-variants.{Passed, Refused}
+use Rattle.answer.specs.declared.answers.BareAnswer.the-variants as bare
 use Rattle.answer.specs.Outcome.{unless}
+use Rattle.answer.specs.Answers.{bareAnswer}
 use Rattle.answer.proofs.OutcomeLaws.{then-passed, then-refused}
 use Rattle.chains.specs.Chains.{chainOf}
 use Rattle.open_file.specs.Opening.{openFile}
 use Rattle.verdict.specs.Verdict.{verdict, afterwards}
-use Rattle.update.specs.declared.answers.Deleted.the-variants as answers
 use Rattle.update.specs.Extend.{isKnownNumber}
-use Rattle.update.specs.Delete.{deleteOutcome, deleted, deleteAnswer, withoutNumbers, deleteImage, deleteTests}
+use Rattle.update.specs.Delete.{deleteOutcome, deleteAnswer, withoutNumbers, deleteImage, deleteTests}
 
 module _ (image : List ℕ) (id : FileId) where
   abbrev without : List ℕ
@@ -35,17 +36,17 @@ module _ (image : List ℕ) (id : FileId) where
   tests-passed e h = then-passed (openFile image id) _ e ∙ rw (lt-leb (id .number) 5 h)
 
   -- What they come to.
-  pub answer-refused : (o : Outcome) (r : Refusal) → o ≡ Refused r → (answers.Refused r ≡ deleted o) × (image ≡ afterwards o image without)
-  unfolding deleted afterwards
+  pub answer-refused : (o : Outcome) (r : Refusal) → o ≡ Refused r → (bare.Refused r ≡ bareAnswer o) × (image ≡ afterwards o image without)
+  unfolding bareAnswer afterwards
   answer-refused o r e = (rw e, rw e)
 
-  pub answer-done : (o : Outcome) (after : List ℕ) → o ≡ Passed → after ≡ without → (answers.Done ≡ deleted o) × (after ≡ afterwards o image without)
-  unfolding deleted afterwards
+  pub answer-done : (o : Outcome) (after : List ℕ) → o ≡ Passed → after ≡ without → (bare.Done ≡ bareAnswer o) × (after ≡ afterwards o image without)
+  unfolding bareAnswer afterwards
   answer-done o after e f = (rw e, rw e f)
 
   -- Before them, the verdict.
   module _ (b h : ℕ) where
-    pub judged-refused : (r : Refusal) → verdict image b h ≡ Refused r → (answers.Refused r ≡ deleteAnswer image id b h) × (image ≡ deleteImage image id b h)
+    pub judged-refused : (r : Refusal) → verdict image b h ≡ Refused r → (bare.Refused r ≡ deleteAnswer image id b h) × (image ≡ deleteImage image id b h)
     unfolding deleteAnswer deleteImage deleteOutcome
     judged-refused r e = answer-refused (deleteOutcome image id b h) r (then-refused (verdict image b h) _ r e)
 

@@ -1,4 +1,5 @@
 // Delete: the headers of a file's chain given up, and the blocks that they cover made free.
+use answer::answers::BareAnswer;
 use answer::outcome::Outcome;
 use answer::refusal::Refusal;
 use answer::types::FileId;
@@ -9,7 +10,6 @@ use delete_steps::clear_index;
 use delete_steps::clear_slots;
 use delete_steps::free_headers;
 use open_file::open_on;
-use update::answers::Deleted;
 use verdict::judge_volume;
 use volume::Places;
 use volume::Volume;
@@ -18,12 +18,13 @@ ghost use mathlib.Core.Path.{_≡_};
 ghost use mathlib.Core.Bool.{true};
 ghost use Prim.Native.Nat.{_≤_};
 ghost use lib.ListN.{length};
+ghost use Rattle.answer.specs.Answers.{bareAnswer};
 ghost use Rattle.volume.specs.Volume.{slot};
 ghost use Rattle.volume.specs.Opening.{Recorded};
 ghost use Rattle.chains.specs.Chains.{chainOf, goodChain, IsFirst};
 ghost use Rattle.verdict.specs.Verdict.{afterwards, blockMarks, headerMarks};
 ghost use Rattle.sound.specs.Sound.{Safe};
-ghost use Rattle.update.specs.Delete.{deleted, deleteAnswer, withoutNumbers, deleteImage, deleteTests};
+ghost use Rattle.update.specs.Delete.{deleteAnswer, withoutNumbers, deleteImage, deleteTests};
 
 // The chain of the file whose first header has number n and lies at this LBN given up: its index bits, its blocks, its slots. The slots come last, for
 // the pointers stand in them.
@@ -41,9 +42,9 @@ fn delete_chain(image: &mut [u8], v: Volume, places: &Places, n: FileNumber, lbn
 }
 
 // Deletes a file on a volume that opens and is safe.
-pub fn delete_on(image: &mut [u8], v: Volume, places: &Places, id: FileId) -> Deleted
+pub fn delete_on(image: &mut [u8], v: Volume, places: &Places, id: FileId) -> BareAnswer
     requires { ⌜ Recorded (now image) v (now places) × Safe (now image) ⌝ }
-    ensures { λ r. ⌜ (r ≡ deleted (deleteTests (now (image .entry)) id))
+    ensures { λ r. ⌜ (r ≡ bareAnswer (deleteTests (now (image .entry)) id))
         × (now (image .exit) ≡ afterwards (deleteTests (now (image .entry)) id) (now (image .entry)) (withoutNumbers (now (image .entry)) (chainOf (now (image .entry)) (id .number)))) ⌝ }
 {
     let file = open_on(image, v, places, id);
@@ -52,17 +53,17 @@ pub fn delete_on(image: &mut [u8], v: Volume, places: &Places, id: FileId) -> De
         Outcome::Passed => {
             let n = id.number as u32;
             if n <= 5 {
-                return Deleted::Refused(Refusal::Known);
+                return BareAnswer::Refused(Refusal::Known);
             }
             delete_chain(image, v, places, FileNumber(n), file.header);
-            Deleted::Done
+            BareAnswer::Done
         }
-        Outcome::Refused(r) => Deleted::Refused(r),
+        Outcome::Refused(r) => BareAnswer::Refused(r),
     }
 }
 
 // Judges the volume, and deletes a file.
-pub fn delete(image: &mut [u8], id: FileId, area: &mut [u8], headers: &mut [u8]) -> Deleted
+pub fn delete(image: &mut [u8], id: FileId, area: &mut [u8], headers: &mut [u8]) -> BareAnswer
     ensures { λ r. ⌜ (r ≡ deleteAnswer (now (image .entry)) id (length (now (area .entry))) (length (now (headers .entry))))
         × (now (image .exit) ≡ deleteImage (now (image .entry)) id (length (now (area .entry))) (length (now (headers .entry))))
         × (now (area .exit) ≡ blockMarks (now (image .entry)) (now (area .entry)) (now (headers .entry)))
@@ -73,6 +74,6 @@ pub fn delete(image: &mut [u8], id: FileId, area: &mut [u8], headers: &mut [u8])
     let result = j.outcome;
     match result {
         Outcome::Passed => delete_on(image, j.volume, &places, id),
-        Outcome::Refused(r) => Deleted::Refused(r),
+        Outcome::Refused(r) => BareAnswer::Refused(r),
     }
 }

@@ -2,19 +2,12 @@
 use Prim.Native.Nat.{ℕ}
 use mathlib.Core.List.{List, [], _∷_}
 use Rattle.answer.specs.Words.{doneWords, refusedWords}
-use Rattle.look_up.specs.declared.Found.{Found}
-use Rattle.look_up.specs.declared.Found.the-variants as found
-use Rattle.look_up.specs.declared.Stepped.{Stepped}
-use Rattle.look_up.specs.declared.Stepped.the-variants as stepped
-
--- 01, Answer numbers: DONE has as value the "ID (look-up, create)".
-abbrev pub foundWords : Found → List ℕ
-foundWords (found.Done id) = doneWords (id .number ∷ id .sequence ∷ id .volume ∷ [])
-foundWords (found.Refused r) = refusedWords r
+use Rattle.look_up.specs.declared.NextRecordAnswer.{NextRecordAnswer}
+use Rattle.look_up.specs.declared.NextRecordAnswer.the-variants as answers
 
 -- 01, Answer numbers: DONE has as value the "record", its eight words; beside it stands the place to go on from.
-abbrev pub steppedWords : Stepped → List ℕ
-steppedWords (stepped.Done e next) =
+abbrev pub nextRecordWords : NextRecordAnswer → List ℕ
+nextRecordWords (answers.Done e next) =
     doneWords (
     e .id .number
     ∷ e .id .sequence
@@ -26,4 +19,4 @@ steppedWords (stepped.Done e next) =
     ∷ e .name .version
     ∷ next
     ∷ [])
-steppedWords (stepped.Refused r) = refusedWords r
+nextRecordWords (answers.Refused r) = refusedWords r

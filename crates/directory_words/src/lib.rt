@@ -1,45 +1,16 @@
 // The answer words of the calls on a directory.
 use answer::words::put_done;
 use answer::words::put_refused;
-use look_up::Found;
-use look_up::Stepped;
+use look_up::NextRecordAnswer;
 ghost use mathlib.Core.Path.{_≡_};
-ghost use Rattle.directory_words.specs.Words.{foundWords, steppedWords};
-
-// The words of an ID that was looked up.
-pub fn put_found(answer: &mut [u64; 12], found: Found)
-    ensures { λ _. ⌜ now (answer .exit) ≡ foundWords found ⌝ }
-{
-    match found {
-        Found::Done(id) => {
-            put_done(
-                answer,
-                [
-                    id.number as u64,
-                    id.sequence as u64,
-                    id.volume as u64,
-                    0,
-                    0,
-                    0,
-                    0,
-                    0,
-                    0,
-                    0,
-                ],
-            );
-        }
-        Found::Refused(r) => {
-            put_refused(answer, r);
-        }
-    }
-}
+ghost use Rattle.directory_words.specs.Words.{nextRecordWords};
 
 // The words of a record and of the place to go on from.
-pub fn put_stepped(answer: &mut [u64; 12], stepped: Stepped)
-    ensures { λ _. ⌜ now (answer .exit) ≡ steppedWords stepped ⌝ }
+pub fn put_next_record(answer: &mut [u64; 12], result: NextRecordAnswer)
+    ensures { λ _. ⌜ now (answer .exit) ≡ nextRecordWords result ⌝ }
 {
-    match stepped {
-        Stepped::Done(e, next) => {
+    match result {
+        NextRecordAnswer::Done(e, next) => {
             let i = e.id;
             let n = e.name;
             put_done(
@@ -58,7 +29,7 @@ pub fn put_stepped(answer: &mut [u64; 12], stepped: Stepped)
                 ],
             );
         }
-        Stepped::Refused(r) => {
+        NextRecordAnswer::Refused(r) => {
             put_refused(answer, r);
         }
     }

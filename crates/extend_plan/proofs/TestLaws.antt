@@ -24,8 +24,7 @@ use Rattle.chains.specs.Chains.{lastNumber}
 use Rattle.open_file.specs.Opening.{anyone, openOn}
 use Rattle.open_file.proofs.OpeningLaws.{by-on}
 use Rattle.verdict.specs.Verdict.{verdict}
-use Rattle.update.specs.declared.answers.Extended.the-variants as answers
-use Rattle.update.specs.Extend.{isKnownNumber, isCount, hasRoom, runStart, hasRun, extendOutcome, extended, extendTests}
+use Rattle.update.specs.Extend.{isKnownNumber, isCount, hasRoom, runStart, hasRun, extendOutcome, extendTests}
 use Rattle.extend_plan.specs.declared.Plan.{Plan}
 use Rattle.extend_plan.specs.declared.Plan.the-variants as plan
 use Rattle.extend_plan.specs.Plan.{planned}
@@ -173,13 +172,3 @@ module _ (image : List ℕ) (id : FileId) (c : ℕ) where
 
     pub outcome-refused : (r : Refusal) → verdict image b h ≡ outcome.Refused r → extendOutcome image id c b h ≡ outcome.Refused r
     outcome-refused r p = outcome-is ∙ then-refused (verdict image b h) (extendTests image id c) r p
-
--- An answer by the outcome.
-module _ (o : Outcome) where
-  pub answer-done : (lbn : ℕ) (a : Lbn) → o ≡ outcome.Passed → a .0 ≡ lbn → answers.Done a ≡ extended o lbn
-  unfolding extended
-  answer-done lbn a p e = rw (p, ← e)
-
-  pub answer-refused : (lbn : ℕ) (r : Refusal) → o ≡ outcome.Refused r → answers.Refused r ≡ extended o lbn
-  unfolding extended
-  answer-refused lbn r p = rw p

@@ -15,16 +15,17 @@ use Rattle.answer.specs.declared.outcome.Outcome.{Outcome}
 use Rattle.answer.specs.declared.outcome.Outcome.the-variants as outcome
 use Rattle.answer.specs.Outcome.{unless, _then_}
 use Rattle.answer.proofs.OutcomeLaws.{passed-then, passed-last}
-use Rattle.mapping.specs.declared.Mapped.{Mapped}
-use Rattle.mapping.specs.declared.Mapped.the-variants as maps
+use Rattle.answer.specs.declared.answers.LbnAnswer.{LbnAnswer}
+use Rattle.answer.specs.declared.answers.LbnAnswer.the-variants as lbns
+use Rattle.answer.specs.declared.answers.RunAnswer.{RunAnswer}
+use Rattle.answer.specs.declared.answers.RunAnswer.the-variants.{Done, Refused}
+use Rattle.answer.specs.Answers.{lbnAnswer, runAnswer}
 use Rattle.chains.specs.Chains.{fileBlocks}
 use Rattle.open_file.specs.Opening.{openFile}
-use Rattle.mapping.specs.Mapping.{hasVbn, lbnOf, findVbn, mapped, mapAnswer}
+use Rattle.mapping.specs.Mapping.{hasVbn, lbnOf, findVbn, mapAnswer}
 use Rattle.mapping.proofs.MappingLaws.{map-done}
-use Rattle.extents.specs.declared.Extent.{Extent}
-use Rattle.extents.specs.declared.Extent.the-variants.{Done, Refused}
 use Rattle.rows.specs.Rows.{rowLength}
-use Rattle.extents.specs.Extents.{extentFrom, extentAnswer}
+use Rattle.extents.specs.Extents.{extentAnswer}
 use Rattle.extents.specs.Claims.{ExtentsMap}
 use Rattle.rows.proofs.RowLaws.{InRow, row-has, row-some}
 
@@ -34,22 +35,22 @@ blocks image id = fileBlocks image (id .number)
 
 module _ (image : List ℕ) (id : FileId) (vbn : ℕ) where
   pub extent-refused : (r : Refusal) → openFile image id ≡ outcome.Refused r → extentAnswer image id vbn ≡ Refused r
-  unfolding extentAnswer extentFrom findVbn _then_
+  unfolding extentAnswer runAnswer findVbn _then_
   extent-refused r e = rw e
 
   module _ (e : openFile image id ≡ outcome.Passed) where
     pub extent-zero : vbn ≡ 0 → extentAnswer image id vbn ≡ Refused refusal.Vbn
-    unfolding extentAnswer extentFrom findVbn hasVbn unless _then_
+    unfolding extentAnswer runAnswer findVbn hasVbn unless _then_
     extent-zero z = rw (e, lt-leb 1 vbn (omega arith))
 
     module _ (low : 1 ≤ vbn) where
       pub extent-beyond : length (blocks image id) < vbn → extentAnswer image id vbn ≡ Refused refusal.Vbn
-      unfolding extentAnswer extentFrom findVbn hasVbn unless _then_
+      unfolding extentAnswer runAnswer findVbn hasVbn unless _then_
       extent-beyond h = rw (e, le-leb 1 vbn low, lt-leb vbn (length (blocks image id)) h)
 
       pub extent-done : (lbn : Lbn) (c : ℕ) → vbn ≤ length (blocks image id) → (lbn .0 ≡ getD (blocks image id) (vbn - 1) 0) × (c ≡ rowLength (blocks image id) (vbn - 1))
           → extentAnswer image id vbn ≡ Done lbn c
-      unfolding extentAnswer extentFrom findVbn hasVbn lbnOf unless _then_
+      unfolding extentAnswer runAnswer findVbn hasVbn lbnOf unless _then_
       extent-done lbn c h l = rw (e, le-leb 1 vbn low, le-leb vbn (length (blocks image id)) h, ← l .0, ← l .1)
 
   -- What is known of a VBN that was found.
@@ -66,24 +67,24 @@ module _ (image : List ℕ) (id : FileId) (vbn : ℕ) where
       record { opens = both .0; low = leb-true 1 vbn (tests .0); high = leb-true vbn (length (blocks image id)) (tests .1) }
 
   -- What is known by the answer of asking for an extent, and by that of mapping.
-  abbrev ExtentTold : Extent → Type 0
+  abbrev ExtentTold : RunAnswer → Type 0
   ExtentTold (Done lbn c) = Found × (lbn .0 ≡ getD (blocks image id) (vbn - 1) 0) × (c ≡ rowLength (blocks image id) (vbn - 1))
-  ExtentTold (Refused r) = mapAnswer image id vbn ≡ maps.Refused r
+  ExtentTold (Refused r) = mapAnswer image id vbn ≡ lbns.Refused r
 
-  extent-told : (a : Extent) → extentAnswer image id vbn ≡ a → ExtentTold a
-  unfolding extentAnswer extentFrom mapAnswer mapped lbnOf
+  extent-told : (a : RunAnswer) → extentAnswer image id vbn ≡ a → ExtentTold a
+  unfolding extentAnswer runAnswer mapAnswer lbnAnswer lbnOf
   extent-told a e = subst ExtentTold e (go (findVbn image id vbn) refl)
     where
       go : (o : Outcome) → findVbn image id vbn ≡ o → ExtentTold (extentAnswer image id vbn)
       go outcome.Passed q = rw q (found q, refl, refl)
       go (outcome.Refused r) q = rw q (rw q)
 
-  abbrev MapTold : Mapped → Type 0
-  MapTold (maps.Done lbn) = Found × (lbn .0 ≡ getD (blocks image id) (vbn - 1) 0)
-  MapTold (maps.Refused r) = Unit
+  abbrev MapTold : LbnAnswer → Type 0
+  MapTold (lbns.Done lbn) = Found × (lbn .0 ≡ getD (blocks image id) (vbn - 1) 0)
+  MapTold (lbns.Refused r) = Unit
 
-  map-told : (a : Mapped) → mapAnswer image id vbn ≡ a → MapTold a
-  unfolding mapAnswer mapped lbnOf
+  map-told : (a : LbnAnswer) → mapAnswer image id vbn ≡ a → MapTold a
+  unfolding mapAnswer lbnAnswer lbnOf
   map-told a e = subst MapTold e (go (findVbn image id vbn) refl)
     where
       go : (o : Outcome) → findVbn image id vbn ≡ o → MapTold (mapAnswer image id vbn)
@@ -107,16 +108,16 @@ module _ (image : List ℕ) (id : FileId) (vbn : ℕ) (lbn : Lbn) (c : ℕ) (e :
   extent-some : 0 < c
   extent-some = rw (known .2) (row-some (blocks image id) place inside)
 
-  extent-each : (i : ℕ) → i < c → mapAnswer image id (vbn + i) ≡ maps.Done (record { 0 = lbn .0 + i })
+  extent-each : (i : ℕ) → i < c → mapAnswer image id (vbn + i) ≡ lbns.Done (record { 0 = lbn .0 + i })
   extent-each i l =
       let f = known .0 in
       let p : vbn + i - 1 ≡ place + i = omega (arith, f .low) in
       map-done image id (vbn + i) (f .opens) (omega (arith, f .low)) (record { 0 = lbn .0 + i }) (omega (arith, row .inside, f .low))
       (ap (λ (n : ℕ). n + i) (known .1) ∙ sym (row .each i l) ∙ ap (λ (n : ℕ). getD (blocks image id) n 0) (sym p))
 
-  extent-most : mapAnswer image id (vbn + c) ≡ maps.Done (record { 0 = lbn .0 + c }) → ⊥
+  extent-most : mapAnswer image id (vbn + c) ≡ lbns.Done (record { 0 = lbn .0 + c }) → ⊥
   extent-most q =
-      let m = map-told image id (vbn + c) (maps.Done (record { 0 = lbn .0 + c })) q in
+      let m = map-told image id (vbn + c) (lbns.Done (record { 0 = lbn .0 + c })) q in
       let p : vbn + c - 1 ≡ place + c = omega (arith, known .0 .low) in
       row .end (omega (arith, m .0 .high, known .0 .low))
       (ap (λ (n : ℕ). getD (blocks image id) n 0) (sym p) ∙ sym (m .1) ∙ ap (λ (n : ℕ). n + c) (known .1))

@@ -1,9 +1,9 @@
 // Extents of a file: from a VBN on, the blocks that lie one after the other on the volume.
+use answer::answers::RunAnswer;
 use answer::outcome::Outcome;
 use answer::refusal::Refusal;
 use answer::types::FileId;
 use answer::types::FileNumber;
-use answer::types::Lbn;
 use answer::types::Vbn;
 use open_file::open;
 use rows::Row;
@@ -12,15 +12,8 @@ ghost use mathlib.Core.Path.{_≡_};
 ghost use Rattle.extents.specs.Extents.{extentAnswer};
 ghost use Rattle.extents.specs.Claims.{ExtentsMap};
 
-// The answer of asking for an extent.
-pub enum Extent {
-    // The LBN of the VBN, and how many blocks lie in a row from there on.
-    Done(Lbn, u32),
-    Refused(Refusal),
-}
-
 // The extent of a file from a VBN on.
-pub fn extent_from(image: &[u8], id: FileId, vbn: Vbn) -> Extent
+pub fn extent(image: &[u8], id: FileId, vbn: Vbn) -> RunAnswer
     ensures { λ r. ⌜ r ≡ extentAnswer (now (image .entry)) id (vbn .0) ⌝ }
 {
     let mut places = [0u32; 256];
@@ -30,10 +23,10 @@ pub fn extent_from(image: &[u8], id: FileId, vbn: Vbn) -> Extent
         Outcome::Passed => {
             let place = vbn.0;
             if place == 0 {
-                return Extent::Refused(Refusal::Vbn);
+                return RunAnswer::Refused(Refusal::Vbn);
             }
             if file.blocks < place {
-                return Extent::Refused(Refusal::Vbn);
+                return RunAnswer::Refused(Refusal::Vbn);
             }
             let row = row_of(
                 image,
@@ -44,12 +37,12 @@ pub fn extent_from(image: &[u8], id: FileId, vbn: Vbn) -> Extent
                 place - 1,
             );
             match row {
-                Row::Ahead(_) => Extent::Refused(Refusal::Vbn),
-                Row::Open(lbn, count) => Extent::Done(lbn, count),
-                Row::Ended(lbn, count) => Extent::Done(lbn, count),
+                Row::Ahead(_) => RunAnswer::Refused(Refusal::Vbn),
+                Row::Open(lbn, count) => RunAnswer::Done(lbn, count),
+                Row::Ended(lbn, count) => RunAnswer::Done(lbn, count),
             }
         }
-        Outcome::Refused(r) => Extent::Refused(r),
+        Outcome::Refused(r) => RunAnswer::Refused(r),
     }
 }
 

@@ -10,17 +10,17 @@ use Rattle.answer.specs.declared.outcome.Outcome.the-variants.{Passed, Refused}
 use Rattle.volume.specs.Volume.{header}
 use Rattle.chains.specs.Chains.{fileBlocks}
 use Rattle.open_file.specs.Opening.{openFile}
-use Rattle.file_facts.specs.declared.FileFacts.{FileFacts}
-use Rattle.file_facts.specs.declared.Described.the-variants as described
+use Rattle.file_facts.specs.declared.types.Attributes.{Attributes}
+use Rattle.file_facts.specs.declared.types.AttributesAnswer.the-variants as answers
 use Rattle.header.specs.Attributes.{fEfbk, fFfby, endOf}
-use Rattle.file_facts.specs.Files.{fileFacts, describedBy, fileAnswer}
+use Rattle.file_facts.specs.Files.{attributesOf, attributesBy, attributesAnswer}
 
 module _ (image : List ℕ) (id : FileId) where
-  pub described-refused : (r : Refusal) → openFile image id ≡ Refused r → described.Refused r ≡ fileAnswer image id
-  unfolding fileAnswer describedBy
-  described-refused r e = rw e
+  pub attributes-refused : (r : Refusal) → openFile image id ≡ Refused r → answers.Refused r ≡ attributesAnswer image id
+  unfolding attributesAnswer attributesBy
+  attributes-refused r e = rw e
 
-  pub described-done : openFile image id ≡ Passed → (f : FileFacts) → f ≡ fileFacts (header image (id .number)) (length (fileBlocks image (id .number)))
-      → described.Done f ≡ fileAnswer image id
-  unfolding fileAnswer describedBy
-  described-done e f s = rw (e, s)
+  pub attributes-done : openFile image id ≡ Passed → (f : Attributes) → f ≡ attributesOf (header image (id .number)) (length (fileBlocks image (id .number)))
+      → answers.Done f ≡ attributesAnswer image id
+  unfolding attributesAnswer attributesBy
+  attributes-done e f s = rw (e, s)

@@ -10,13 +10,13 @@ use Rattle.header.specs.Fields.{hFpro, hFown, hFcha}
 use Rattle.volume.specs.Volume.{header}
 use Rattle.chains.specs.Chains.{fileBlocks}
 use Rattle.open_file.specs.Opening.{openFile}
-use Rattle.file_facts.specs.declared.FileFacts.{FileFacts}
-use Rattle.file_facts.specs.declared.Described.{Described}
-use Rattle.file_facts.specs.declared.Described.the-variants as described
+use Rattle.file_facts.specs.declared.types.Attributes.{Attributes}
+use Rattle.file_facts.specs.declared.types.AttributesAnswer.{AttributesAnswer}
+use Rattle.file_facts.specs.declared.types.AttributesAnswer.the-variants as answers
 
 -- What the first header of a file of so many blocks says.
-unfoldable pub fileFacts : List ℕ → ℕ → FileFacts
-fileFacts h count = record {
+unfoldable pub attributesOf : List ℕ → ℕ → Attributes
+attributesOf h count = record {
   blocks = count;
   end = endOf h count;
   owner = hFown h;
@@ -29,10 +29,10 @@ fileFacts h count = record {
   «first_free» = fFfby h;
 }
 
-unfoldable pub describedBy : Outcome → FileFacts → Described
-describedBy outcome.Passed f = described.Done f
-describedBy (outcome.Refused r) f = described.Refused r
+unfoldable pub attributesBy : Outcome → Attributes → AttributesAnswer
+attributesBy outcome.Passed f = answers.Done f
+attributesBy (outcome.Refused r) f = answers.Refused r
 
 -- Every call on a file opens it first; 01, Answer numbers: 1 to 12.
-unfoldable pub fileAnswer : List ℕ → FileId → Described
-fileAnswer image id = describedBy (openFile image id) (fileFacts (header image (id .number)) (length (fileBlocks image (id .number))))
+unfoldable pub attributesAnswer : List ℕ → FileId → AttributesAnswer
+attributesAnswer image id = attributesBy (openFile image id) (attributesOf (header image (id .number)) (length (fileBlocks image (id .number))))

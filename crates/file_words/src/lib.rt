@@ -1,63 +1,32 @@
 // The answer words of the calls that read a file.
+use answer::answers::LbnAnswer;
 use answer::words::put_done;
 use answer::words::put_refused;
-use extents::Extent;
-use file_facts::Described;
-use mapping::Mapped;
-use open_file::OpenedFile;
+use file_facts::types::AttributesAnswer;
 ghost use mathlib.Core.Path.{_≡_};
-ghost use Rattle.file_words.specs.Words.{openedFileWords, mappedWords, blockWords, describedWords, extentWords};
-
-// The words of a file that was opened.
-pub fn put_opened_file(answer: &mut [u64; 12], opened: OpenedFile)
-    ensures { λ _. ⌜ now (answer .exit) ≡ openedFileWords opened ⌝ }
-{
-    match opened {
-        OpenedFile::Done(count) => {
-            put_done(answer, [count as u64, 0, 0, 0, 0, 0, 0, 0, 0, 0]);
-        }
-        OpenedFile::Refused(r) => {
-            put_refused(answer, r);
-        }
-    }
-}
-
-// The words of where a VBN lies.
-pub fn put_mapped(answer: &mut [u64; 12], mapped: Mapped)
-    ensures { λ _. ⌜ now (answer .exit) ≡ mappedWords mapped ⌝ }
-{
-    match mapped {
-        Mapped::Done(lbn) => {
-            let place = lbn.0;
-            put_done(answer, [place as u64, 0, 0, 0, 0, 0, 0, 0, 0, 0]);
-        }
-        Mapped::Refused(r) => {
-            put_refused(answer, r);
-        }
-    }
-}
+ghost use Rattle.file_words.specs.Words.{blockWords, attributesWords};
 
 // The words of the block of a VBN: where it begins in the image, and how many bytes it has.
-pub fn put_block(answer: &mut [u64; 12], mapped: Mapped)
-    ensures { λ _. ⌜ now (answer .exit) ≡ blockWords mapped ⌝ }
+pub fn put_block(answer: &mut [u64; 12], result: LbnAnswer)
+    ensures { λ _. ⌜ now (answer .exit) ≡ blockWords result ⌝ }
 {
-    match mapped {
-        Mapped::Done(lbn) => {
+    match result {
+        LbnAnswer::Done(lbn) => {
             let place = lbn.0;
             put_done(answer, [512 * (place as u64), 512, 0, 0, 0, 0, 0, 0, 0, 0]);
         }
-        Mapped::Refused(r) => {
+        LbnAnswer::Refused(r) => {
             put_refused(answer, r);
         }
     }
 }
 
 // The words of what a file says of itself.
-pub fn put_described(answer: &mut [u64; 12], described: Described)
-    ensures { λ _. ⌜ now (answer .exit) ≡ describedWords described ⌝ }
+pub fn put_attributes(answer: &mut [u64; 12], result: AttributesAnswer)
+    ensures { λ _. ⌜ now (answer .exit) ≡ attributesWords result ⌝ }
 {
-    match described {
-        Described::Done(f) => {
+    match result {
+        AttributesAnswer::Done(f) => {
             put_done(
                 answer,
                 [
@@ -74,22 +43,7 @@ pub fn put_described(answer: &mut [u64; 12], described: Described)
                 ],
             );
         }
-        Described::Refused(r) => {
-            put_refused(answer, r);
-        }
-    }
-}
-
-// The words of an extent.
-pub fn put_extent(answer: &mut [u64; 12], extent: Extent)
-    ensures { λ _. ⌜ now (answer .exit) ≡ extentWords extent ⌝ }
-{
-    match extent {
-        Extent::Done(lbn, count) => {
-            let start = lbn.0;
-            put_done(answer, [start as u64, count as u64, 0, 0, 0, 0, 0, 0, 0, 0]);
-        }
-        Extent::Refused(r) => {
+        AttributesAnswer::Refused(r) => {
             put_refused(answer, r);
         }
     }

@@ -8,11 +8,12 @@ use Rattle.lists.proofs.FirstLaws.{first-here, first-on, first-none, first-has}
 use Rattle.answer.specs.declared.refusal.Refusal.{Refusal}
 use Rattle.answer.specs.declared.refusal.Refusal.the-variants as refusal
 use Rattle.answer.specs.declared.outcome.Outcome.the-variants as outcome
+use Rattle.answer.specs.declared.answers.RunAnswer.the-variants.{Done, Refused}
 use Rattle.answer.specs.Outcome.{unless, _then_}
+use Rattle.answer.specs.Answers.{runAnswer}
 use Rattle.home.specs.Home.{blocks}
 use Rattle.volume.specs.Opening.{openVolume}
-use Rattle.free.specs.Free.{isBit, nextBit, nextFree, nextTaken, findFree, freeFrom, freeRun}
-use Rattle.free.specs.declared.Free.the-variants.{Done, Refused}
+use Rattle.free.specs.Free.{isBit, nextBit, nextFree, nextTaken, findFree, freeRunAnswer}
 
 -- At place j the bit is b, or the search goes on, or it is past the last place; and it never goes back.
 module _ (map : List ℕ) (n b j : ℕ) where
@@ -35,14 +36,14 @@ module _ (map : List ℕ) (n b j : ℕ) where
 -- The answer of a volume that opens, where a block is free and where none is, and of one that does not open.
 module _ (image : List ℕ) (from : ℕ) where
   pub run-done : openVolume image ≡ outcome.Passed → (lbn end : ℕ) → lbn ≡ nextFree image from → end ≡ nextTaken image lbn → lbn < blocks image
-      → Done (record { 0 = lbn }) (end - lbn) ≡ freeRun image from
-  unfolding freeRun findFree freeFrom unless _then_
+      → Done (record { 0 = lbn }) (end - lbn) ≡ freeRunAnswer image from
+  unfolding freeRunAnswer findFree runAnswer unless _then_
   run-done o lbn end e f l = rw (o, ← e, lt-ltb lbn (blocks image) l, ← f)
 
-  pub run-absent : openVolume image ≡ outcome.Passed → (lbn : ℕ) → lbn ≡ nextFree image from → blocks image ≤ lbn → Refused refusal.Absent ≡ freeRun image from
-  unfolding freeRun findFree freeFrom unless _then_
+  pub run-absent : openVolume image ≡ outcome.Passed → (lbn : ℕ) → lbn ≡ nextFree image from → blocks image ≤ lbn → Refused refusal.Absent ≡ freeRunAnswer image from
+  unfolding freeRunAnswer findFree runAnswer unless _then_
   run-absent o lbn e l = rw (o, ← e, le-ltb lbn (blocks image) l)
 
-  pub run-refused : (r : Refusal) → openVolume image ≡ outcome.Refused r → Refused r ≡ freeRun image from
-  unfolding freeRun findFree freeFrom _then_
+  pub run-refused : (r : Refusal) → openVolume image ≡ outcome.Refused r → Refused r ≡ freeRunAnswer image from
+  unfolding freeRunAnswer findFree runAnswer _then_
   run-refused r o = rw o

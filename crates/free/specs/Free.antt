@@ -7,13 +7,12 @@ use Rattle.image.specs.Bits.{bitAt}
 use Rattle.lists.specs.First.{first}
 use Rattle.answer.specs.declared.refusal.Refusal.the-variants as refusal
 use Rattle.answer.specs.declared.outcome.Outcome.{Outcome}
-use Rattle.answer.specs.declared.outcome.Outcome.the-variants as outcome
+use Rattle.answer.specs.declared.answers.RunAnswer.{RunAnswer}
 use Rattle.answer.specs.Outcome.{unless, _then_}
+use Rattle.answer.specs.Answers.{runAnswer}
 use Rattle.home.specs.Home.{blocks}
 use Rattle.volume.specs.Volume.{storageMap}
 use Rattle.volume.specs.Opening.{openVolume}
-use Rattle.free.specs.declared.Free.{Free}
-use Rattle.free.specs.declared.Free.the-variants.{Done, Refused}
 
 -- Bit j of a map is b.
 unfoldable pub isBit : List ℕ → ℕ → ℕ → Bool
@@ -35,12 +34,8 @@ nextTaken image from = nextBit (storageMap image) (blocks image) 0 from
 unfoldable pub findFree : List ℕ → ℕ → Outcome
 findFree image from = openVolume image then unless (ltb (nextFree image from) (blocks image)) refusal.Absent
 
-unfoldable pub freeFrom : Outcome → ℕ → ℕ → Free
-freeFrom outcome.Passed lbn count = Done (record { 0 = lbn }) count
-freeFrom (outcome.Refused r) lbn count = Refused r
-
 -- The first run of free blocks from an LBN on: the LBN of its first block, and how many blocks it has.
-unfoldable pub freeRun : List ℕ → ℕ → Free
-freeRun image from =
+unfoldable pub freeRunAnswer : List ℕ → ℕ → RunAnswer
+freeRunAnswer image from =
     let lbn = nextFree image from in
-    freeFrom (findFree image from) lbn (nextTaken image lbn - lbn)
+    runAnswer (findFree image from) lbn (nextTaken image lbn - lbn)

@@ -13,7 +13,9 @@ use Rattle.answer.specs.declared.types.Name.{Name}
 use Rattle.answer.specs.declared.refusal.Refusal.{Refusal}
 use Rattle.answer.specs.declared.refusal.Refusal.the-variants as refusal
 use Rattle.answer.specs.declared.outcome.Outcome.the-variants.{Passed, Refused}
+use Rattle.answer.specs.declared.answers.RunAnswer.the-variants as runs
 use Rattle.answer.specs.Outcome.{unless, _then_}
+use Rattle.answer.specs.Answers.{runAnswer}
 use Rattle.answer.proofs.OutcomeLaws.{refused-not, passed-then, passed-last, passed-first}
 use Rattle.header.specs.Fields.{hIdof}
 use Rattle.pointers.specs.Pointers.{pointerLbn, pointerCount, pointers, Fits}
@@ -24,10 +26,9 @@ use Rattle.volume.specs.Opening.{openVolume}
 use Rattle.chains.proofs.NumberLaws.{number-length, number-fits}
 use Rattle.chains.specs.Finding.{findNumber}
 use Rattle.chains.proofs.FindingLaws.{find-is}
-use Rattle.header_facts.specs.declared.HeaderFacts.{HeaderFacts}
-use Rattle.header_facts.specs.declared.Shown.the-variants as shown
-use Rattle.header_facts.specs.declared.Pointed.the-variants as pointed
-use Rattle.header_facts.specs.Headers.{findHeader, factsOf, shownBy, headerAnswer, findPointer, pointedBy, pointerAnswer}
+use Rattle.header_facts.specs.declared.types.Header.{Header}
+use Rattle.header_facts.specs.declared.types.HeaderAnswer.the-variants as headers
+use Rattle.header_facts.specs.Headers.{findHeader, factsOf, headerBy, headerAnswer, findPointer, pointerAnswer}
 use Rattle.pointers.specs.Pointers.{pointerAt}
 
 module _ (image : List ℕ) (n : ℕ) where
@@ -61,27 +62,27 @@ module _ (image : List ℕ) (n : ℕ) where
       (number-length image n (t .1) (t .0), omega (arith, w .map, w .room))
 
   -- What the header says.
-  pub shown-refused : (r : Refusal) → findHeader image n ≡ Refused r → shown.Refused r ≡ headerAnswer image n
-  unfolding headerAnswer shownBy
-  shown-refused r e = rw e
+  pub header-refused : (r : Refusal) → findHeader image n ≡ Refused r → headers.Refused r ≡ headerAnswer image n
+  unfolding headerAnswer headerBy
+  header-refused r e = rw e
 
-  pub shown-done : findHeader image n ≡ Passed → (f : HeaderFacts) → f ≡ factsOf (header image n) → shown.Done f ≡ headerAnswer image n
-  unfolding headerAnswer shownBy
-  shown-done e f s = rw (e, s)
+  pub header-done : findHeader image n ≡ Passed → (f : Header) → f ≡ factsOf (header image n) → headers.Done f ≡ headerAnswer image n
+  unfolding headerAnswer headerBy
+  header-done e f s = rw (e, s)
 
   -- A pointer of it.
   module _ (p : ℕ) where
-    pub pointed-refused : (r : Refusal) → findHeader image n ≡ Refused r → pointed.Refused r ≡ pointerAnswer image n p
-    unfolding pointerAnswer pointedBy findPointer _then_
-    pointed-refused r e = rw e
+    pub pointer-refused : (r : Refusal) → findHeader image n ≡ Refused r → runs.Refused r ≡ pointerAnswer image n p
+    unfolding pointerAnswer runAnswer findPointer _then_
+    pointer-refused r e = rw e
 
     module _ (e : findHeader image n ≡ Passed) where
-      pub pointed-absent : pointers (header image n) ≤ p → pointed.Refused refusal.Absent ≡ pointerAnswer image n p
-      unfolding pointerAnswer pointedBy findPointer unless _then_
-      pointed-absent l = rw (e, le-ltb p (pointers (header image n)) l)
+      pub pointer-absent : pointers (header image n) ≤ p → runs.Refused refusal.Absent ≡ pointerAnswer image n p
+      unfolding pointerAnswer runAnswer findPointer unless _then_
+      pointer-absent l = rw (e, le-ltb p (pointers (header image n)) l)
 
-      pub pointed-done : p < pointers (header image n) → (lbn : Lbn) (count : ℕ)
+      pub pointer-done : p < pointers (header image n) → (lbn : Lbn) (count : ℕ)
           → lbn .0 ≡ pointerLbn (header image n) (pointerAt (header image n) p) → count ≡ pointerCount (header image n) (pointerAt (header image n) p)
-          → pointed.Done lbn count ≡ pointerAnswer image n p
-      unfolding pointerAnswer pointedBy findPointer unless _then_
-      pointed-done l lbn count a b = rw (e, lt-ltb p (pointers (header image n)) l, ← a, ← b)
+          → runs.Done lbn count ≡ pointerAnswer image n p
+      unfolding pointerAnswer runAnswer findPointer unless _then_
+      pointer-done l lbn count a b = rw (e, lt-ltb p (pointers (header image n)) l, ← a, ← b)

@@ -1,9 +1,11 @@
 // What the header of a file number in use says: its place in a chain, its name, its retrieval pointers.
+use crate::types::Header;
+use crate::types::HeaderAnswer;
+use answer::answers::RunAnswer;
 use answer::outcome::Outcome;
 use answer::refusal::Refusal;
 use answer::types::FileNumber;
 use answer::types::Lbn;
-use answer::types::Name;
 use chains::find_number;
 use chains::slot_in_use;
 use header::fields::h_fseq;
@@ -26,41 +28,14 @@ ghost use Rattle.header.specs.Fields.{hIdof};
 ghost use Rattle.volume.specs.Opening.{Recorded};
 ghost use Rattle.header_facts.specs.Headers.{factsOf, headerAnswer, pointerAnswer};
 
-// What a header says.
-pub struct HeaderFacts {
-    // H.FSEQ.
-    pub sequence: u16,
-    // The segment number.
-    pub segment: u8,
-    // M.EFNU.
-    pub next: u16,
-    // M.EFSQ.
-    pub next_sequence: u16,
-    // How many retrieval pointers are in use.
-    pub pointers: u32,
-    // The name in the ident area.
-    pub name: Name,
-}
-
-// The answer of asking what a header says.
-pub enum Shown {
-    Done(HeaderFacts),
-    Refused(Refusal),
-}
-
-// The answer of asking for a retrieval pointer.
-pub enum Pointed {
-    // The first LBN that it covers, and how many it covers.
-    Done(Lbn, u32),
-    Refused(Refusal),
-}
+pub mod types;
 
 // What a header says that has all of its ident area.
-fn facts_of(h: &[u8]) -> HeaderFacts
+fn facts_of(h: &[u8]) -> Header
     requires { ⌜ (length (now h) ≡ 512) × (hIdof (now h) ≤ 250) ⌝ }
     ensures { λ r. ⌜ r ≡ factsOf (now (h .entry)) ⌝ }
 {
-    HeaderFacts {
+    Header {
         sequence: h_fseq(h),
         segment: segment(h),
         next: m_efnu(h),
@@ -71,7 +46,7 @@ fn facts_of(h: &[u8]) -> HeaderFacts
 }
 
 // What the header of a file number says, on an opened volume.
-fn show_header_on(image: &[u8], v: Volume, places: &Places, n: FileNumber) -> Shown
+fn header_on(image: &[u8], v: Volume, places: &Places, n: FileNumber) -> HeaderAnswer
     requires { ⌜ Recorded (now image) v (now places) ⌝ }
     ensures { λ r. ⌜ r ≡ headerAnswer (now (image .entry)) (n .0) ⌝ }
 {
@@ -80,13 +55,13 @@ fn show_header_on(image: &[u8], v: Volume, places: &Places, n: FileNumber) -> Sh
     let lbn = found.header;
     let result = found.outcome;
     match result {
-        Outcome::Passed => Shown::Done(facts_of(block(image, lbn))),
-        Outcome::Refused(r) => Shown::Refused(r),
+        Outcome::Passed => HeaderAnswer::Done(facts_of(block(image, lbn))),
+        Outcome::Refused(r) => HeaderAnswer::Refused(r),
     }
 }
 
 // What the header of a file number in use says.
-pub fn show_header(image: &[u8], n: FileNumber) -> Shown
+pub fn header(image: &[u8], n: FileNumber) -> HeaderAnswer
     ensures { λ r. ⌜ r ≡ headerAnswer (now (image .entry)) (n .0) ⌝ }
 {
     let mut places = [0u32; 256];
@@ -94,13 +69,13 @@ pub fn show_header(image: &[u8], n: FileNumber) -> Shown
     let v = opened.volume;
     let result = opened.outcome;
     match result {
-        Outcome::Passed => show_header_on(image, v, &places, n),
-        Outcome::Refused(r) => Shown::Refused(r),
+        Outcome::Passed => header_on(image, v, &places, n),
+        Outcome::Refused(r) => HeaderAnswer::Refused(r),
     }
 }
 
 // Retrieval pointer p, from 0, of the header of a file number, on an opened volume; ABSENT past the last.
-fn show_pointer_on(image: &[u8], v: Volume, places: &Places, n: FileNumber, p: u32) -> Pointed
+fn pointer_on(image: &[u8], v: Volume, places: &Places, n: FileNumber, p: u32) -> RunAnswer
     requires { ⌜ Recorded (now image) v (now places) ⌝ }
     ensures { λ r. ⌜ r ≡ pointerAnswer (now (image .entry)) (n .0) p ⌝ }
 {
@@ -112,17 +87,17 @@ fn show_pointer_on(image: &[u8], v: Volume, places: &Places, n: FileNumber, p: u
         Outcome::Passed => {
             let h = block(image, lbn);
             if (pointer_number(h) as u32) <= p {
-                return Pointed::Refused(Refusal::Absent);
+                return RunAnswer::Refused(Refusal::Absent);
             }
             let at = first_pointer(h) + 4 * (p as usize);
-            Pointed::Done(pointer_lbn(h, at), pointer_count(h, at))
+            RunAnswer::Done(pointer_lbn(h, at), pointer_count(h, at))
         }
-        Outcome::Refused(r) => Pointed::Refused(r),
+        Outcome::Refused(r) => RunAnswer::Refused(r),
     }
 }
 
 // Retrieval pointer p, from 0, of the header of a file number in use; ABSENT past the last.
-pub fn show_pointer(image: &[u8], n: FileNumber, p: u32) -> Pointed
+pub fn pointer(image: &[u8], n: FileNumber, p: u32) -> RunAnswer
     ensures { λ r. ⌜ r ≡ pointerAnswer (now (image .entry)) (n .0) p ⌝ }
 {
     let mut places = [0u32; 256];
@@ -130,7 +105,7 @@ pub fn show_pointer(image: &[u8], n: FileNumber, p: u32) -> Pointed
     let v = opened.volume;
     let result = opened.outcome;
     match result {
-        Outcome::Passed => show_pointer_on(image, v, &places, n, p),
-        Outcome::Refused(r) => Pointed::Refused(r),
+        Outcome::Passed => pointer_on(image, v, &places, n, p),
+        Outcome::Refused(r) => RunAnswer::Refused(r),
     }
 }

@@ -2,14 +2,12 @@
 use Prim.Native.Nat.{ℕ}
 use mathlib.Core.List.{List, [], _∷_}
 use Rattle.answer.specs.Words.{doneWords, refusedWords}
-use Rattle.header_facts.specs.declared.Shown.{Shown}
-use Rattle.header_facts.specs.declared.Shown.the-variants as shown
-use Rattle.header_facts.specs.declared.Pointed.{Pointed}
-use Rattle.header_facts.specs.declared.Pointed.the-variants as pointed
+use Rattle.header_facts.specs.declared.types.HeaderAnswer.{HeaderAnswer}
+use Rattle.header_facts.specs.declared.types.HeaderAnswer.the-variants as headers
 
 -- H.FSEQ, segment number, M.EFNU, M.EFSQ, how many retrieval pointers, and the five words of the name in the ident area.
-abbrev pub shownWords : Shown → List ℕ
-shownWords (shown.Done f) =
+abbrev pub headerWords : HeaderAnswer → List ℕ
+headerWords (headers.Done f) =
     doneWords (
     f .sequence
     ∷ f .segment
@@ -22,9 +20,4 @@ shownWords (shown.Done f) =
     ∷ f .name .typ
     ∷ f .name .version
     ∷ [])
-shownWords (shown.Refused r) = refusedWords r
-
--- The first LBN that the retrieval pointer covers, and how many it covers.
-abbrev pub pointedWords : Pointed → List ℕ
-pointedWords (pointed.Done lbn count) = doneWords (lbn .0 ∷ count ∷ [])
-pointedWords (pointed.Refused r) = refusedWords r
+headerWords (headers.Refused r) = refusedWords r

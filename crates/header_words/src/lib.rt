@@ -1,17 +1,16 @@
 // The answer words of the calls on the header of a file number.
 use answer::words::put_done;
 use answer::words::put_refused;
-use header_facts::Pointed;
-use header_facts::Shown;
+use header_facts::types::HeaderAnswer;
 ghost use mathlib.Core.Path.{_≡_};
-ghost use Rattle.header_words.specs.Words.{shownWords, pointedWords};
+ghost use Rattle.header_words.specs.Words.{headerWords};
 
 // The words of what a header says.
-pub fn put_shown(answer: &mut [u64; 12], shown: Shown)
-    ensures { λ _. ⌜ now (answer .exit) ≡ shownWords shown ⌝ }
+pub fn put_header(answer: &mut [u64; 12], result: HeaderAnswer)
+    ensures { λ _. ⌜ now (answer .exit) ≡ headerWords result ⌝ }
 {
-    match shown {
-        Shown::Done(f) => {
+    match result {
+        HeaderAnswer::Done(f) => {
             let n = f.name;
             put_done(
                 answer,
@@ -29,22 +28,7 @@ pub fn put_shown(answer: &mut [u64; 12], shown: Shown)
                 ],
             );
         }
-        Shown::Refused(r) => {
-            put_refused(answer, r);
-        }
-    }
-}
-
-// The words of a retrieval pointer.
-pub fn put_pointed(answer: &mut [u64; 12], pointed: Pointed)
-    ensures { λ _. ⌜ now (answer .exit) ≡ pointedWords pointed ⌝ }
-{
-    match pointed {
-        Pointed::Done(lbn, count) => {
-            let first = lbn.0;
-            put_done(answer, [first as u64, count as u64, 0, 0, 0, 0, 0, 0, 0, 0]);
-        }
-        Pointed::Refused(r) => {
+        HeaderAnswer::Refused(r) => {
             put_refused(answer, r);
         }
     }

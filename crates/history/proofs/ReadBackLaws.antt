@@ -1,6 +1,6 @@
 -- What is read back after a call that is DONE.
 use mathlib.Core.Path.{_≡_, refl, sym, ap, _∙_}
-use mathlib.Core.Bool.{Bool, true, false, false≢true}
+use mathlib.Core.Bool.{true, false, false≢true}
 use mathlib.Core.List.{List, [], _++_}
 use Prim.Native.Nat.{ℕ, _+_}
 use native.Mathlib.Omega.{arith}
@@ -10,31 +10,25 @@ use lib.ListN.{length-append}
 use Rattle.lists.specs.Lists.{numbersFrom}
 use Rattle.lists.proofs.NumbersLaws.{numbersFrom-length}
 use Rattle.answer.specs.declared.types.FileId.{FileId}
-use Rattle.answer.specs.declared.types.Lbn.{Lbn}
-use Rattle.answer.specs.declared.outcome.Outcome.{Outcome}
-use Rattle.answer.specs.declared.outcome.Outcome.the-variants.{Passed, Refused}
+use Rattle.answer.specs.declared.outcome.Outcome.the-variants.{Passed}
+use Rattle.answer.specs.declared.answers.CountAnswer.the-variants as counts
+use Rattle.answer.specs.Answers.{countAnswer}
+use Rattle.answer.proofs.AnswerLaws.{done-lbn, done-id, done-bare}
 use Rattle.header.specs.Fields.{hFseq, userFlags, systemFlags, segment, mEfnu}
 use Rattle.pointers.specs.Pointers.{blocksOf}
 use Rattle.volume.specs.Volume.{header, inUse}
-use Rattle.open_file.specs.declared.OpenedFile.the-variants as openedFiles
 use Rattle.chains.specs.Chains.{chain, chainOf, fileBlocks, lastNumber}
 use Rattle.pointers.specs.Pointers.{flat}
 use Rattle.header.specs.Flags.{hasFlag, locked}
-use Rattle.open_file.specs.Opening.{anyone, openFile, openedFile, openAnswer}
+use Rattle.open_file.specs.Opening.{anyone, openFile, openFileAnswer}
 use Rattle.open_file.proofs.OpeningLaws.{anyone-passed}
 use Rattle.lists.specs.Counts.{count, In}
 use Rattle.sound.specs.Claims.{IsFile}
 use Rattle.sound.proofs.MemberLaws.{flat-end}
 use Rattle.sound.proofs.ChainLaws.{chain-used, member-used}
-use Rattle.update.specs.declared.answers.Created.{Created}
-use Rattle.update.specs.declared.answers.Created.the-variants as creates
-use Rattle.update.specs.declared.answers.Extended.{Extended}
-use Rattle.update.specs.declared.answers.Extended.the-variants as extends
-use Rattle.update.specs.declared.answers.Deleted.{Deleted}
-use Rattle.update.specs.declared.answers.Deleted.the-variants as deletes
-use Rattle.update.specs.Create.{createOutcome, newId, created, createAnswer, newSequence}
-use Rattle.update.specs.Extend.{runStart, extendOutcome, extended, extendAnswer}
-use Rattle.update.specs.Delete.{deleteOutcome, deleted, deleteAnswer}
+use Rattle.update.specs.Create.{createOutcome, newId, createAnswer, newSequence}
+use Rattle.update.specs.Extend.{runStart, extendOutcome, extendAnswer}
+use Rattle.update.specs.Delete.{deleteOutcome, deleteAnswer}
 use Rattle.update.proofs.Effects.{Good, good-usable, Extended as Extends}
 use Rattle.update.proofs.DoneLaws.{create-passes, extend-passes, delete-passes}
 use Rattle.update.proofs.ChainSame.{chain-links}
@@ -51,42 +45,6 @@ use Rattle.history.proofs.DeleteStep as deleting
 use Rattle.history.proofs.ListLaws.{accepted-good, run-good}
 use Rattle.history.proofs.GoneLaws.{Spent, run-spent, spent-gone}
 
--- An answer DONE is that of a row of tests that is passed.
-created-done : (o : Outcome) (a b : FileId) → created o a ≡ creates.Done b → (o ≡ Passed) × (a ≡ b)
-unfolding created
-created-done Passed a b e = (refl, ap id e)
-  where
-    id : Created → FileId
-    id (creates.Done x) = x
-    id (creates.Refused r) = a
-created-done (Refused r) a b e = absurd (false≢true (ap done e))
-  where
-    done : Created → Bool
-    done (creates.Done x) = true
-    done (creates.Refused r) = false
-
-extended-done : (o : Outcome) (a : ℕ) (b : Lbn) → extended o a ≡ extends.Done b → (o ≡ Passed) × (a ≡ b .0)
-unfolding extended
-extended-done Passed a b e = (refl, ap lbn e)
-  where
-    lbn : Extended → ℕ
-    lbn (extends.Done x) = x .0
-    lbn (extends.Refused r) = a
-extended-done (Refused r) a b e = absurd (false≢true (ap done e))
-  where
-    done : Extended → Bool
-    done (extends.Done x) = true
-    done (extends.Refused r) = false
-
-deleted-done : (o : Outcome) → deleted o ≡ deletes.Done → o ≡ Passed
-unfolding deleted
-deleted-done Passed e = refl
-deleted-done (Refused r) e = absurd (false≢true (ap done e))
-  where
-    done : Deleted → Bool
-    done deletes.Done = true
-    done (deletes.Refused r) = false
-
 -- No flag locks a header that has none.
 unlocked : (h : List ℕ) → userFlags h ≡ 0 → systemFlags h ≡ 0 → locked h ≡ false
 unfolding locked hasFlag
@@ -97,8 +55,8 @@ unfolding locked
 locked-same h h′ u s = rw (u, s)
 
 -- The answer of opening a file that opens.
-open-done : (image : List ℕ) (id : FileId) (k : ℕ) → openFile image id ≡ Passed → length (fileBlocks image (id .number)) ≡ k → openAnswer image id ≡ openedFiles.Done k
-unfolding openAnswer openedFile
+open-done : (image : List ℕ) (id : FileId) (k : ℕ) → openFile image id ≡ Passed → length (fileBlocks image (id .number)) ≡ k → openFileAnswer image id ≡ counts.Done k
+unfolding openFileAnswer countAnswer
 open-done image id k o e = rw (o, e) refl
 
 -- A file of one header that covers nothing has no blocks.
@@ -110,7 +68,7 @@ module _ (image : List ℕ) (g : Good image) where
   after-create : AfterCreate image
   unfolding createAnswer newId newSequence
   after-create name owner protection area headers w id e =
-      let d = created-done (createOutcome image name (length area) (length headers)) (newId image) id e in
+      let d = done-id (createOutcome image name (length area) (length headers)) (newId image) id e in
       let p = d .0 in
       let c = creating.creating image g name owner protection area headers w p in
       let z = creating.z image g name owner protection area headers w p in
@@ -127,7 +85,7 @@ module _ (image : List ℕ) (g : Good image) where
   after-delete : AfterDelete image
   unfolding deleteAnswer
   after-delete id area headers e =
-      let p = deleted-done (deleteOutcome image id (length area) (length headers)) e in
+      let p = done-bare (deleteOutcome image id (length area) (length headers)) e in
       let d = deleting.deleting image g id area headers p in
       let f = deleting.facts image g id area headers p in
       let s = deleting.delete-step image g id area headers p in
@@ -209,7 +167,7 @@ module _ (image : List ℕ) (g : Good image) where
         open-file z (good-usable good) anyone id (o .found .relvol) (record { used = effect .used f ∙ file .used; first = first .seg ∙ file .first })
         (first .word ∙ o .found .sequence) (anyone-passed _) (first .lock ∙ o .unlocked)
 
-    extend-reads : (openAnswer z id ≡ openedFiles.Done (length (fileBlocks image f) + c)) × (fileBlocks z f ≡ fileBlocks image f ++ numbersFrom s c)
+    extend-reads : (openFileAnswer z id ≡ counts.Done (length (fileBlocks image f) + c)) × (fileBlocks z f ≡ fileBlocks image f ++ numbersFrom s c)
     extend-reads =
         let long : length (fileBlocks z f) ≡ length (fileBlocks image f) + c =
         ap length grows ∙ length-append (fileBlocks image f) (numbersFrom s c) ∙ omega (arith, numbersFrom-length s c) in
@@ -218,7 +176,7 @@ module _ (image : List ℕ) (g : Good image) where
   after-extend : AfterExtend image
   unfolding extendAnswer
   after-extend id c area headers lbn e =
-      let d = extended-done (extendOutcome image id c (length area) (length headers)) (runStart image c) lbn e in
+      let d = done-lbn (extendOutcome image id c (length area) (length headers)) (runStart image c) lbn e in
       rw (extend-passes image id c (length area) (length headers) (d .0), ← d .1) (extend-reads id c area headers (d .0))
 
 pub reads-back : CallsReadBack

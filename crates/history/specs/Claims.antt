@@ -10,13 +10,13 @@ use Rattle.header.specs.Fields.{hFseq}
 use Rattle.home.specs.Home.{blocks}
 use Rattle.volume.specs.Volume.{fmax, header}
 use Rattle.chains.specs.Chains.{fileBlocks}
-use Rattle.verdict.specs.Verdict.{verdictAnswer}
+use Rattle.verdict.specs.Verdict.{judgeAnswer}
 use Rattle.sound.specs.Claims.{isDone, IsFile}
 use Rattle.history.specs.Calls.{Call, run, Words, Names, Each}
 
 -- 01, Demand 3: "An image is accepted where the verdict on it, with work areas of N and H.FMAX bytes or more and any content, answers DONE."
 abbrev pub Accepted : List ℕ → Type 0
-Accepted image = (area headers : List ℕ) → blocks image ≤ length area → fmax image ≤ length headers → isDone (verdictAnswer image area headers) ≡ true
+Accepted image = (area headers : List ℕ) → blocks image ≤ length area → fmax image ≤ length headers → isDone (judgeAnswer image area headers) ≡ true
 
 -- 01, Demand 3: "The known files are numbers 1 to 5."
 abbrev pub lastKnown : ℕ

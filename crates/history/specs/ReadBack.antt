@@ -11,13 +11,13 @@ use Rattle.answer.specs.declared.types.Lbn.{Lbn}
 use Rattle.answer.specs.declared.types.Name.{Name}
 use Rattle.answer.specs.declared.refusal.Refusal.the-variants as refusal
 use Rattle.answer.specs.declared.outcome.Outcome.the-variants as outcome
+use Rattle.answer.specs.declared.answers.LbnAnswer.the-variants as lbns
+use Rattle.answer.specs.declared.answers.IdAnswer.the-variants as ids
+use Rattle.answer.specs.declared.answers.CountAnswer.the-variants as counts
+use Rattle.answer.specs.declared.answers.BareAnswer.the-variants as bare
 use Rattle.volume.specs.Volume.{inUse}
-use Rattle.open_file.specs.declared.OpenedFile.the-variants as opened
 use Rattle.chains.specs.Chains.{fileBlocks}
-use Rattle.open_file.specs.Opening.{openFile, openAnswer}
-use Rattle.update.specs.declared.answers.Created.the-variants as created
-use Rattle.update.specs.declared.answers.Extended.the-variants as extended
-use Rattle.update.specs.declared.answers.Deleted.the-variants as deleted
+use Rattle.open_file.specs.Opening.{openFile, openFileAnswer}
 use Rattle.update.specs.Create.{createAnswer, createImage}
 use Rattle.update.specs.Extend.{extendAnswer, extendImage}
 use Rattle.update.specs.Delete.{deleteAnswer, deleteImage}
@@ -28,14 +28,14 @@ use Rattle.history.specs.Claims.{Accepted}
 abbrev pub AfterCreate : List ℕ → Type 0
 AfterCreate image =
     (name : Name) (owner protection : ℕ) (area headers : List ℕ) → Words (create name owner protection area headers)
-    → (id : FileId) → createAnswer image name (length area) (length headers) ≡ created.Done id
-    → openAnswer (createImage image name owner protection (length area) (length headers)) id ≡ opened.Done 0
+    → (id : FileId) → createAnswer image name (length area) (length headers) ≡ ids.Done id
+    → openFileAnswer (createImage image name owner protection (length area) (length headers)) id ≡ counts.Done 0
 
 -- After an extend that is DONE the file opens, and its blocks are those that it had and then the c new ones.
 abbrev pub AfterExtend : List ℕ → Type 0
 AfterExtend image =
-    (id : FileId) (c : ℕ) (area headers : List ℕ) (lbn : Lbn) → extendAnswer image id c (length area) (length headers) ≡ extended.Done lbn
-    → (openAnswer (extendImage image id c (length area) (length headers)) id ≡ opened.Done (length (fileBlocks image (id .number)) + c))
+    (id : FileId) (c : ℕ) (area headers : List ℕ) (lbn : Lbn) → extendAnswer image id c (length area) (length headers) ≡ lbns.Done lbn
+    → (openFileAnswer (extendImage image id c (length area) (length headers)) id ≡ counts.Done (length (fileBlocks image (id .number)) + c))
     × (fileBlocks (extendImage image id c (length area) (length headers)) (id .number) ≡ fileBlocks image (id .number) ++ numbersFrom (lbn .0) c)
 
 -- After a delete that is DONE, and after every list of calls that follows, the ID is refused: as NUMBER while its number is not in use, as SEQUENCE once it
@@ -46,7 +46,7 @@ pub record Gone (image : List ℕ) (id : FileId) : Type 0 where
 
 abbrev pub AfterDelete : List ℕ → Type 0
 AfterDelete image =
-    (id : FileId) (area headers : List ℕ) → deleteAnswer image id (length area) (length headers) ≡ deleted.Done
+    (id : FileId) (area headers : List ℕ) → deleteAnswer image id (length area) (length headers) ≡ bare.Done
     → (inUse (deleteImage image id (length area) (length headers)) (id .number) ≡ false)
     × ((calls : List Call) → Each Words calls → Gone (run calls (deleteImage image id (length area) (length headers))) id)
 

@@ -5,7 +5,7 @@ use answer::refusal::place_of;
 use libc::STDIN_FILENO;
 use libc::STDOUT_FILENO;
 use verdict::Counts;
-use verdict::Judged;
+use verdict::JudgeAnswer;
 use verdict::judge;
 
 // Writes text.
@@ -50,14 +50,14 @@ fn report(image: &[u8]) {
     let mut headers = [0u8; 4096];
     let judged = judge(image, &mut blocks, &mut headers);
     match judged {
-        Judged::Done(c) => {
+        JudgeAnswer::Done(c) => {
             say(b"answer 0 DONE place 0\n");
             tell_count(b"blocks", c.blocks);
             tell_count(b"claimed", c.claimed);
             tell_count(b"free", c.free);
             tell_count(b"headers", c.headers);
         }
-        Judged::Refused(r) => {
+        JudgeAnswer::Refused(r) => {
             say(b"answer ");
             tell(number_of(r) as u32);
             say(b" ");

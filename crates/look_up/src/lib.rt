@@ -1,4 +1,5 @@
 // The two calls on a directory: look-up by name, and the next record.
+use answer::answers::IdAnswer;
 use answer::outcome::Outcome;
 use answer::refusal::Refusal;
 use answer::types::FileId;
@@ -18,14 +19,7 @@ ghost use Rattle.answer.specs.declared.outcome.Outcome.the-variants.{Passed};
 ghost use Rattle.volume.specs.Volume.{slot, volumeOf, placesOf};
 ghost use Rattle.open_file.specs.Opening.{openFile};
 ghost use Rattle.directory.specs.Search.{recordCount};
-ghost use Rattle.look_up.specs.LookUp.{lookUp, nextRecord};
-
-// The answer of a look-up.
-pub enum Found {
-    // The ID as it is stored.
-    Done(FileId),
-    Refused(Refusal),
-}
+ghost use Rattle.look_up.specs.LookUp.{lookUpAnswer, nextRecordAnswer};
 
 // A look-up in a directory that opens, of so many records: NAME, ABSENT.
 fn look_up_opened(
@@ -36,9 +30,9 @@ fn look_up_opened(
     lbn: Lbn,
     count: u32,
     name: Name,
-) -> Found
+) -> IdAnswer
     requires { ⌜ (openFile (now image) id ≡ Passed) × (v ≡ volumeOf (now image)) × (count ≡ recordCount (now image) (id .number)) × (lbn .0 ≡ slot (now image) (id .number)) × (now places ≡ placesOf (now image)) ⌝ }
-    ensures { λ r. ⌜ r ≡ lookUp (now (image .entry)) id name ⌝ }
+    ensures { λ r. ⌜ r ≡ lookUpAnswer (now (image .entry)) id name ⌝ }
 {
     let good = names::is_proper(name);
     if good {
@@ -54,18 +48,18 @@ fn look_up_opened(
             Wanted::Named(name),
         );
         if count <= r {
-            return Found::Refused(Refusal::Absent);
+            return IdAnswer::Refused(Refusal::Absent);
         }
         let e = entry_of_file(image, v, places, FileNumber(n), lbn, r);
         let stored = e.id;
-        return Found::Done(stored);
+        return IdAnswer::Done(stored);
     }
-    Found::Refused(Refusal::Name)
+    IdAnswer::Refused(Refusal::Name)
 }
 
 // The ID beside a name in a directory.
-pub fn look_up(image: &[u8], id: FileId, name: Name) -> Found
-    ensures { λ r. ⌜ r ≡ lookUp (now (image .entry)) id name ⌝ }
+pub fn look_up(image: &[u8], id: FileId, name: Name) -> IdAnswer
+    ensures { λ r. ⌜ r ≡ lookUpAnswer (now (image .entry)) id name ⌝ }
 {
     let mut places = [0u32; 256];
     let file = open(image, &mut places, id);
@@ -80,12 +74,12 @@ pub fn look_up(image: &[u8], id: FileId, name: Name) -> Found
             record_count(file.blocks),
             name,
         ),
-        Outcome::Refused(r) => Found::Refused(r),
+        Outcome::Refused(r) => IdAnswer::Refused(r),
     }
 }
 
 // The answer of a step.
-pub enum Stepped {
+pub enum NextRecordAnswer {
     // The record, and the place to go on from.
     Done(Entry, u32),
     Refused(Refusal),
@@ -100,25 +94,25 @@ fn next_opened(
     lbn: Lbn,
     count: u32,
     place: u32,
-) -> Stepped
+) -> NextRecordAnswer
     requires { ⌜ (openFile (now image) id ≡ Passed) × (v ≡ volumeOf (now image)) × (count ≡ recordCount (now image) (id .number)) × (lbn .0 ≡ slot (now image) (id .number)) × (now places ≡ placesOf (now image)) ⌝ }
-    ensures { λ r. ⌜ r ≡ nextRecord (now (image .entry)) id place ⌝ }
+    ensures { λ r. ⌜ r ≡ nextRecordAnswer (now (image .entry)) id place ⌝ }
 {
     if count <= place {
-        return Stepped::Refused(Refusal::Absent);
+        return NextRecordAnswer::Refused(Refusal::Absent);
     }
     let n = FileNumber(id.number as u32);
     let r = search_file(image, v, places, n, lbn, place, count, Wanted::Any);
     if count <= r {
-        return Stepped::Refused(Refusal::Absent);
+        return NextRecordAnswer::Refused(Refusal::Absent);
     }
     let e = entry_of_file(image, v, places, n, lbn, r);
-    Stepped::Done(e, r + 1)
+    NextRecordAnswer::Done(e, r + 1)
 }
 
 // The next record that is not empty, from a place on; ABSENT where there is none, and in a file that does not open.
-pub fn next_record(image: &[u8], id: FileId, place: u32) -> Stepped
-    ensures { λ r. ⌜ r ≡ nextRecord (now (image .entry)) id place ⌝ }
+pub fn next_record(image: &[u8], id: FileId, place: u32) -> NextRecordAnswer
+    ensures { λ r. ⌜ r ≡ nextRecordAnswer (now (image .entry)) id place ⌝ }
 {
     let mut places = [0u32; 256];
     let file = open(image, &mut places, id);
@@ -133,6 +127,6 @@ pub fn next_record(image: &[u8], id: FileId, place: u32) -> Stepped
             record_count(file.blocks),
             place,
         ),
-        Outcome::Refused(_) => Stepped::Refused(Refusal::Absent),
+        Outcome::Refused(_) => NextRecordAnswer::Refused(Refusal::Absent),
     }
 }

@@ -8,12 +8,12 @@ use Rattle.image.specs.Blocks.{block}
 use Rattle.answer.specs.declared.types.FileId.{FileId}
 use Rattle.answer.specs.declared.refusal.Refusal.the-variants as refusal
 use Rattle.answer.specs.declared.outcome.Outcome.{Outcome}
-use Rattle.answer.specs.declared.outcome.Outcome.the-variants as outcome
+use Rattle.answer.specs.declared.answers.LbnAnswer.{LbnAnswer}
+use Rattle.answer.specs.declared.answers.LbnAnswer.the-variants.{Done, Refused}
 use Rattle.answer.specs.Outcome.{unless, _then_}
+use Rattle.answer.specs.Answers.{lbnAnswer}
 use Rattle.chains.specs.Chains.{fileBlocks}
 use Rattle.open_file.specs.Opening.{openFile}
-use Rattle.mapping.specs.declared.Mapped.{Mapped}
-use Rattle.mapping.specs.declared.Mapped.the-variants.{Done, Refused}
 
 -- 01, The work and its edge: "Virtual block numbers (VBN, from 1)". The file whose first header has number n has this VBN.
 unfoldable pub hasVbn : List ℕ → ℕ → ℕ → Bool
@@ -27,16 +27,11 @@ lbnOf image n vbn = getD (fileBlocks image n) (vbn - 1) 0
 unfoldable pub findVbn : List ℕ → FileId → ℕ → Outcome
 findVbn image id vbn = openFile image id then unless (hasVbn image (id .number) vbn) refusal.Vbn
 
--- 01, Answer numbers: DONE has as value the "LBN (map)".
-unfoldable pub mapped : Outcome → ℕ → Mapped
-mapped outcome.Passed lbn = Done (record { 0 = lbn })
-mapped (outcome.Refused r) lbn = Refused r
-
--- The answer of mapping a VBN.
-unfoldable pub mapAnswer : List ℕ → FileId → ℕ → Mapped
-mapAnswer image id vbn = mapped (findVbn image id vbn) (lbnOf image (id .number) vbn)
+-- The answer of mapping a VBN. 01, Answer numbers: DONE has as value the "LBN (map)".
+unfoldable pub mapAnswer : List ℕ → FileId → ℕ → LbnAnswer
+mapAnswer image id vbn = lbnAnswer (findVbn image id vbn) (lbnOf image (id .number) vbn)
 
 -- 01, Names and directories: "A block is answered as the image's own 512 bytes, not a copy." 01, Answer numbers: a refusal has "an empty part".
-unfoldable pub blockOf : List ℕ → Mapped → List ℕ
+unfoldable pub blockOf : List ℕ → LbnAnswer → List ℕ
 blockOf image (Done lbn) = block image (lbn .0)
 blockOf image (Refused r) = []

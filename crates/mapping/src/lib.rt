@@ -1,23 +1,17 @@
 // A file's VBNs.
+use answer::answers::LbnAnswer;
 use answer::outcome::Outcome;
 use answer::refusal::Refusal;
 use answer::types::FileId;
 use answer::types::FileNumber;
-use answer::types::Lbn;
 use answer::types::Vbn;
 use chains::lbn_at;
 use open_file::open;
 ghost use mathlib.Core.Path.{_≡_};
 ghost use Rattle.mapping.specs.Mapping.{mapAnswer, blockOf};
 
-// The answer of mapping a VBN.
-pub enum Mapped {
-    Done(Lbn),
-    Refused(Refusal),
-}
-
 // The LBN of a file's VBN.
-pub fn map(image: &[u8], id: FileId, vbn: Vbn) -> Mapped
+pub fn map(image: &[u8], id: FileId, vbn: Vbn) -> LbnAnswer
     ensures { λ r. ⌜ r ≡ mapAnswer (now (image .entry)) id (vbn .0) ⌝ }
 {
     let mut places = [0u32; 256];
@@ -27,12 +21,12 @@ pub fn map(image: &[u8], id: FileId, vbn: Vbn) -> Mapped
         Outcome::Passed => {
             let place = vbn.0;
             if place == 0 {
-                return Mapped::Refused(Refusal::Vbn);
+                return LbnAnswer::Refused(Refusal::Vbn);
             }
             if file.blocks < place {
-                return Mapped::Refused(Refusal::Vbn);
+                return LbnAnswer::Refused(Refusal::Vbn);
             }
-            Mapped::Done(lbn_at(
+            LbnAnswer::Done(lbn_at(
                 image,
                 file.volume,
                 &places,
@@ -41,7 +35,7 @@ pub fn map(image: &[u8], id: FileId, vbn: Vbn) -> Mapped
                 place - 1,
             ))
         }
-        Outcome::Refused(r) => Mapped::Refused(r),
+        Outcome::Refused(r) => LbnAnswer::Refused(r),
     }
 }
 
@@ -51,7 +45,7 @@ pub fn block(image: &[u8], id: FileId, vbn: Vbn) -> &[u8]
 {
     let place = map(image, id, vbn);
     match place {
-        Mapped::Done(lbn) => image::blocks::block(image, lbn),
-        Mapped::Refused(_) => &image[..0],
+        LbnAnswer::Done(lbn) => image::blocks::block(image, lbn),
+        LbnAnswer::Refused(_) => &image[..0],
     }
 }

@@ -1,9 +1,9 @@
 // Calls that change a volume: create, extend and delete.
 use answer::types::FileId;
 use answer::types::Name;
-use change_words::put_created;
-use change_words::put_deleted;
-use change_words::put_extended;
+use answer_words::put_bare;
+use answer_words::put_id;
+use answer_words::put_lbn;
 use create::create;
 use delete::delete;
 use extend::extend;
@@ -13,7 +13,7 @@ ghost use Rattle.verdict.specs.Verdict.{headerMarks, blockMarks};
 ghost use Rattle.update.specs.Create.{createAnswer, createImage};
 ghost use Rattle.update.specs.Extend.{extendAnswer, extendImage};
 ghost use Rattle.update.specs.Delete.{deleteAnswer, deleteImage};
-ghost use Rattle.change_words.specs.Words.{createdWords, extendedWords, deletedWords};
+ghost use Rattle.answer_words.specs.Words.{lbnWords, idWords, bareWords};
 ghost use Rattle.ods1.specs.Arguments.{idOf, ofWords};
 
 // A new file of no blocks, by its name, owner and protection: its ID.
@@ -31,7 +31,7 @@ pub extern "C" fn ods1_create(
     headers: &mut [u8],
     answer: &mut [u64; 12],
 )
-    ensures { λ _. ⌜ (now (answer .exit) ≡ createdWords (createAnswer (now (image .entry)) (ofWords name1 name2 name3 typ version) (length (now (blocks .entry))) (length (now (headers .entry)))))
+    ensures { λ _. ⌜ (now (answer .exit) ≡ idWords (createAnswer (now (image .entry)) (ofWords name1 name2 name3 typ version) (length (now (blocks .entry))) (length (now (headers .entry)))))
         × (now (image .exit) ≡ createImage (now (image .entry)) (ofWords name1 name2 name3 typ version) owner protection (length (now (blocks .entry))) (length (now (headers .entry))))
         × (now (blocks .exit) ≡ blockMarks (now (image .entry)) (now (blocks .entry)) (now (headers .entry)))
         × (now (headers .exit) ≡ headerMarks (now (image .entry)) (now (blocks .entry)) (now (headers .entry))) ⌝ }
@@ -43,8 +43,8 @@ pub extern "C" fn ods1_create(
         typ,
         version,
     };
-    let created = create(image, name, owner, protection, blocks, headers);
-    put_created(answer, created);
+    let result = create(image, name, owner, protection, blocks, headers);
+    put_id(answer, result);
 }
 
 // A file with so many blocks more, in a row: the first of them.
@@ -59,7 +59,7 @@ pub extern "C" fn ods1_extend(
     headers: &mut [u8],
     answer: &mut [u64; 12],
 )
-    ensures { λ _. ⌜ (now (answer .exit) ≡ extendedWords (extendAnswer (now (image .entry)) (idOf number sequence volume) count (length (now (blocks .entry))) (length (now (headers .entry)))))
+    ensures { λ _. ⌜ (now (answer .exit) ≡ lbnWords (extendAnswer (now (image .entry)) (idOf number sequence volume) count (length (now (blocks .entry))) (length (now (headers .entry)))))
         × (now (image .exit) ≡ extendImage (now (image .entry)) (idOf number sequence volume) count (length (now (blocks .entry))) (length (now (headers .entry))))
         × (now (blocks .exit) ≡ blockMarks (now (image .entry)) (now (blocks .entry)) (now (headers .entry)))
         × (now (headers .exit) ≡ headerMarks (now (image .entry)) (now (blocks .entry)) (now (headers .entry))) ⌝ }
@@ -69,8 +69,8 @@ pub extern "C" fn ods1_extend(
         sequence,
         volume,
     };
-    let extended = extend(image, id, count, blocks, headers);
-    put_extended(answer, extended);
+    let result = extend(image, id, count, blocks, headers);
+    put_lbn(answer, result);
 }
 
 // A file given up: its numbers, its slots and its blocks.
@@ -84,7 +84,7 @@ pub extern "C" fn ods1_delete(
     headers: &mut [u8],
     answer: &mut [u64; 12],
 )
-    ensures { λ _. ⌜ (now (answer .exit) ≡ deletedWords (deleteAnswer (now (image .entry)) (idOf number sequence volume) (length (now (blocks .entry))) (length (now (headers .entry)))))
+    ensures { λ _. ⌜ (now (answer .exit) ≡ bareWords (deleteAnswer (now (image .entry)) (idOf number sequence volume) (length (now (blocks .entry))) (length (now (headers .entry)))))
         × (now (image .exit) ≡ deleteImage (now (image .entry)) (idOf number sequence volume) (length (now (blocks .entry))) (length (now (headers .entry))))
         × (now (blocks .exit) ≡ blockMarks (now (image .entry)) (now (blocks .entry)) (now (headers .entry)))
         × (now (headers .exit) ≡ headerMarks (now (image .entry)) (now (blocks .entry)) (now (headers .entry))) ⌝ }
@@ -94,6 +94,6 @@ pub extern "C" fn ods1_delete(
         sequence,
         volume,
     };
-    let deleted = delete(image, id, blocks, headers);
-    put_deleted(answer, deleted);
+    let result = delete(image, id, blocks, headers);
+    put_bare(answer, result);
 }

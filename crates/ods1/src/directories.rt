@@ -1,13 +1,14 @@
 // Directories: looking a name up, and the next record.
 use answer::types::FileId;
 use answer::types::Name;
-use directory_words::put_found;
-use directory_words::put_stepped;
+use answer_words::put_id;
+use directory_words::put_next_record;
 use look_up::look_up;
 use look_up::next_record;
 ghost use mathlib.Core.Path.{_≡_};
-ghost use Rattle.look_up.specs.LookUp.{lookUp, nextRecord};
-ghost use Rattle.directory_words.specs.Words.{foundWords, steppedWords};
+ghost use Rattle.look_up.specs.LookUp.{lookUpAnswer, nextRecordAnswer};
+ghost use Rattle.answer_words.specs.Words.{idWords};
+ghost use Rattle.directory_words.specs.Words.{nextRecordWords};
 ghost use Rattle.ods1.specs.Arguments.{idOf, ofWords};
 
 // The ID that a directory has under a name, as it is stored.
@@ -24,9 +25,9 @@ pub extern "C" fn ods1_look_up(
     version: u16,
     answer: &mut [u64; 12],
 )
-    ensures { λ _. ⌜ now (answer .exit) ≡ foundWords (lookUp (now (image .entry)) (idOf number sequence volume) (ofWords name1 name2 name3 typ version)) ⌝ }
+    ensures { λ _. ⌜ now (answer .exit) ≡ idWords (lookUpAnswer (now (image .entry)) (idOf number sequence volume) (ofWords name1 name2 name3 typ version)) ⌝ }
 {
-    let found = look_up(
+    let result = look_up(
         image,
         FileId {
             number,
@@ -41,7 +42,7 @@ pub extern "C" fn ods1_look_up(
             version,
         },
     );
-    put_found(answer, found);
+    put_id(answer, result);
 }
 
 // The next record of a directory that is not empty, from a place on, and the place to go on from.
@@ -54,9 +55,9 @@ pub extern "C" fn ods1_next_record(
     place: u32,
     answer: &mut [u64; 12],
 )
-    ensures { λ _. ⌜ now (answer .exit) ≡ steppedWords (nextRecord (now (image .entry)) (idOf number sequence volume) place) ⌝ }
+    ensures { λ _. ⌜ now (answer .exit) ≡ nextRecordWords (nextRecordAnswer (now (image .entry)) (idOf number sequence volume) place) ⌝ }
 {
-    let stepped = next_record(
+    let result = next_record(
         image,
         FileId {
             number,
@@ -65,5 +66,5 @@ pub extern "C" fn ods1_next_record(
         },
         place,
     );
-    put_stepped(answer, stepped);
+    put_next_record(answer, result);
 }

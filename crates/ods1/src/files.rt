@@ -1,15 +1,16 @@
 // Files by ID: how many blocks one has, and where its blocks lie.
 use answer::types::FileId;
 use answer::types::Vbn;
+use answer_words::put_count;
+use answer_words::put_lbn;
 use file_words::put_block;
-use file_words::put_mapped;
-use file_words::put_opened_file;
 use mapping::map;
 use open_file::open_file;
 ghost use mathlib.Core.Path.{_≡_};
-ghost use Rattle.open_file.specs.Opening.{openAnswer};
+ghost use Rattle.open_file.specs.Opening.{openFileAnswer};
 ghost use Rattle.mapping.specs.Mapping.{mapAnswer};
-ghost use Rattle.file_words.specs.Words.{openedFileWords, mappedWords, blockWords};
+ghost use Rattle.answer_words.specs.Words.{lbnWords, countWords};
+ghost use Rattle.file_words.specs.Words.{blockWords};
 ghost use Rattle.ods1.specs.Arguments.{idOf};
 
 // How many blocks a file has.
@@ -21,9 +22,9 @@ pub extern "C" fn ods1_open_file(
     volume: u16,
     answer: &mut [u64; 12],
 )
-    ensures { λ _. ⌜ now (answer .exit) ≡ openedFileWords (openAnswer (now (image .entry)) (idOf number sequence volume)) ⌝ }
+    ensures { λ _. ⌜ now (answer .exit) ≡ countWords (openFileAnswer (now (image .entry)) (idOf number sequence volume)) ⌝ }
 {
-    let opened = open_file(
+    let result = open_file(
         image,
         FileId {
             number,
@@ -31,7 +32,7 @@ pub extern "C" fn ods1_open_file(
             volume,
         },
     );
-    put_opened_file(answer, opened);
+    put_count(answer, result);
 }
 
 // The LBN of a file's VBN.
@@ -44,9 +45,9 @@ pub extern "C" fn ods1_map(
     vbn: u32,
     answer: &mut [u64; 12],
 )
-    ensures { λ _. ⌜ now (answer .exit) ≡ mappedWords (mapAnswer (now (image .entry)) (idOf number sequence volume) vbn) ⌝ }
+    ensures { λ _. ⌜ now (answer .exit) ≡ lbnWords (mapAnswer (now (image .entry)) (idOf number sequence volume) vbn) ⌝ }
 {
-    let mapped = map(
+    let result = map(
         image,
         FileId {
             number,
@@ -55,7 +56,7 @@ pub extern "C" fn ods1_map(
         },
         Vbn(vbn),
     );
-    put_mapped(answer, mapped);
+    put_lbn(answer, result);
 }
 
 // Where the block of a file's VBN begins in the image, and how many bytes it has.
@@ -70,7 +71,7 @@ pub extern "C" fn ods1_block(
 )
     ensures { λ _. ⌜ now (answer .exit) ≡ blockWords (mapAnswer (now (image .entry)) (idOf number sequence volume) vbn) ⌝ }
 {
-    let mapped = map(
+    let result = map(
         image,
         FileId {
             number,
@@ -79,5 +80,5 @@ pub extern "C" fn ods1_block(
         },
         Vbn(vbn),
     );
-    put_block(answer, mapped);
+    put_block(answer, result);
 }

@@ -2,15 +2,13 @@
 use answer::types::FileId;
 use answer::types::Lbn;
 use answer::types::Vbn;
-use extents::extent_from;
-use file_words::put_extent;
+use answer_words::put_run;
+use extents::extent;
 use free::free_run;
-use volume_words::put_free;
 ghost use mathlib.Core.Path.{_≡_};
 ghost use Rattle.extents.specs.Extents.{extentAnswer};
-ghost use Rattle.free.specs.Free.{freeRun};
-ghost use Rattle.file_words.specs.Words.{extentWords};
-ghost use Rattle.volume_words.specs.Words.{freeWords};
+ghost use Rattle.free.specs.Free.{freeRunAnswer};
+ghost use Rattle.answer_words.specs.Words.{runWords};
 ghost use Rattle.ods1.specs.Arguments.{idOf};
 
 // The extent of a file from a VBN on: its LBN, and how many blocks lie in a row.
@@ -23,9 +21,9 @@ pub extern "C" fn ods1_extent(
     vbn: u32,
     answer: &mut [u64; 12],
 )
-    ensures { λ _. ⌜ now (answer .exit) ≡ extentWords (extentAnswer (now (image .entry)) (idOf number sequence volume) vbn) ⌝ }
+    ensures { λ _. ⌜ now (answer .exit) ≡ runWords (extentAnswer (now (image .entry)) (idOf number sequence volume) vbn) ⌝ }
 {
-    let extent = extent_from(
+    let result = extent(
         image,
         FileId {
             number,
@@ -34,14 +32,14 @@ pub extern "C" fn ods1_extent(
         },
         Vbn(vbn),
     );
-    put_extent(answer, extent);
+    put_run(answer, result);
 }
 
 // The first run of free blocks from an LBN on: its first LBN, and how many blocks it has.
 #[no_mangle]
 pub extern "C" fn ods1_free_run(image: &[u8], from: u32, answer: &mut [u64; 12])
-    ensures { λ _. ⌜ now (answer .exit) ≡ freeWords (freeRun (now (image .entry)) from) ⌝ }
+    ensures { λ _. ⌜ now (answer .exit) ≡ runWords (freeRunAnswer (now (image .entry)) from) ⌝ }
 {
-    let found = free_run(image, Lbn(from));
-    put_free(answer, found);
+    let result = free_run(image, Lbn(from));
+    put_run(answer, result);
 }

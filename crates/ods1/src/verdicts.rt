@@ -1,9 +1,9 @@
 // The verdict on a volume.
 use verdict::judge;
-use verdict_words::put_judged;
+use verdict_words::put_judge;
 ghost use mathlib.Core.Path.{_≡_};
-ghost use Rattle.verdict.specs.Verdict.{headerMarks, blockMarks, verdictAnswer};
-ghost use Rattle.verdict_words.specs.Words.{judgedWords};
+ghost use Rattle.verdict.specs.Verdict.{headerMarks, blockMarks, judgeAnswer};
+ghost use Rattle.verdict_words.specs.Words.{judgeWords};
 
 // Whether a volume opens and is sound: the number of its blocks, and how many blocks are covered, bits free and file numbers in use.
 #[no_mangle]
@@ -13,10 +13,10 @@ pub extern "C" fn ods1_judge(
     headers: &mut [u8],
     answer: &mut [u64; 12],
 )
-    ensures { λ _. ⌜ (now (answer .exit) ≡ judgedWords (verdictAnswer (now (image .entry)) (now (blocks .entry)) (now (headers .entry))))
+    ensures { λ _. ⌜ (now (answer .exit) ≡ judgeWords (judgeAnswer (now (image .entry)) (now (blocks .entry)) (now (headers .entry))))
         × (now (blocks .exit) ≡ blockMarks (now (image .entry)) (now (blocks .entry)) (now (headers .entry)))
         × (now (headers .exit) ≡ headerMarks (now (image .entry)) (now (blocks .entry)) (now (headers .entry))) ⌝ }
 {
-    let judged = judge(image, blocks, headers);
-    put_judged(answer, judged);
+    let result = judge(image, blocks, headers);
+    put_judge(answer, result);
 }

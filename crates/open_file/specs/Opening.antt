@@ -9,7 +9,9 @@ use Rattle.answer.specs.declared.types.FileId.{FileId}
 use Rattle.answer.specs.declared.refusal.Refusal.the-variants as refusal
 use Rattle.answer.specs.declared.outcome.Outcome.{Outcome}
 use Rattle.answer.specs.declared.outcome.Outcome.the-variants as outcome
+use Rattle.answer.specs.declared.answers.CountAnswer.{CountAnswer}
 use Rattle.answer.specs.Outcome.{unless, _then_}
+use Rattle.answer.specs.Answers.{countAnswer}
 use Rattle.header.specs.Fields.{hFseq, segment}
 use Rattle.header.specs.Flags.{locked}
 use Rattle.volume.specs.Volume.{slot, header, volumeOf, placesOf}
@@ -18,8 +20,6 @@ use Rattle.chains.specs.Chains.{goodChain, fileBlocks}
 use Rattle.chains.specs.Finding.{findNumber}
 use Rattle.open_file.specs.declared.OpenedOn.{OpenedOn}
 use Rattle.open_file.specs.declared.OpenFile.{OpenFile}
-use Rattle.open_file.specs.declared.OpenedFile.{OpenedFile}
-use Rattle.open_file.specs.declared.OpenedFile.the-variants.{Done, Refused}
 
 -- Finding the header. 01, Answer numbers: "6 RELVOL | third ID word not 0"; NUMBER and HEADER; "9 SEQUENCE | H.FSEQ differs", "10 SEGMENT | segment not
 -- 0".
@@ -74,11 +74,6 @@ TellsPlaces image id result file at =
     × (file .blocks ≤ 8323072)
     × (result ≡ outcome.Passed → at ≡ placesOf image)
 
--- 01, Answer numbers: DONE has as value the "block count (open file)".
-unfoldable pub openedFile : Outcome → ℕ → OpenedFile
-openedFile outcome.Passed count = Done count
-openedFile (outcome.Refused r) count = Refused r
-
--- The answer of opening a file.
-unfoldable pub openAnswer : List ℕ → FileId → OpenedFile
-openAnswer image id = openedFile (openFile image id) (length (fileBlocks image (id .number)))
+-- The answer of opening a file. 01, Answer numbers: DONE has as value the "block count (open file)".
+unfoldable pub openFileAnswer : List ℕ → FileId → CountAnswer
+openFileAnswer image id = countAnswer (openFile image id) (length (fileBlocks image (id .number)))

@@ -1,4 +1,5 @@
 // Opening a file by its ID.
+use answer::answers::CountAnswer;
 use answer::outcome::Outcome;
 use answer::refusal::Refusal;
 use answer::types::FileId;
@@ -27,14 +28,7 @@ ghost use Rattle.volume.specs.Volume.{slot};
 ghost use Rattle.volume.specs.Opening.{Recorded};
 ghost use Rattle.chains.specs.Chains.{IsFirst};
 ghost use Rattle.chains.specs.Finding.{Finds};
-ghost use Rattle.open_file.specs.Opening.{find, chained, anyone, openOn, openFile, Tells, TellsPlaces, openAnswer};
-
-// The answer of opening a file.
-pub enum OpenedFile {
-    // How many blocks it has.
-    Done(u32),
-    Refused(Refusal),
-}
+ghost use Rattle.open_file.specs.Opening.{find, chained, anyone, openOn, openFile, Tells, TellsPlaces, openFileAnswer};
 
 // What opening a file on an opened volume comes to.
 pub struct OpenedOn {
@@ -175,14 +169,14 @@ pub fn open(image: &[u8], places: &mut Places, id: FileId) -> OpenFile
 }
 
 // The answer of opening a file.
-pub fn open_file(image: &[u8], id: FileId) -> OpenedFile
-    ensures { λ r. ⌜ r ≡ openAnswer (now (image .entry)) id ⌝ }
+pub fn open_file(image: &[u8], id: FileId) -> CountAnswer
+    ensures { λ r. ⌜ r ≡ openFileAnswer (now (image .entry)) id ⌝ }
 {
     let mut places = [0u32; 256];
     let o = open(image, &mut places, id);
     let result = o.outcome;
     match result {
-        Outcome::Passed => OpenedFile::Done(o.blocks),
-        Outcome::Refused(r) => OpenedFile::Refused(r),
+        Outcome::Passed => CountAnswer::Done(o.blocks),
+        Outcome::Refused(r) => CountAnswer::Refused(r),
     }
 }

@@ -2,23 +2,17 @@
 use mathlib.Core.Path.{_≡_}
 use mathlib.Core.List.{List}
 use Prim.Native.Nat.{ℕ}
-use Rattle.answer.specs.declared.outcome.Outcome.{Outcome}
 use Rattle.answer.specs.declared.outcome.Outcome.the-variants as outcome
+use Rattle.answer.specs.declared.answers.LbnAnswer.{LbnAnswer}
+use Rattle.answer.specs.Answers.{lbnAnswer}
 use Rattle.home.specs.Home.{home}
 use Rattle.volume.specs.Volume.{placesOf, volumeOf}
 use Rattle.volume.specs.Opening.{openVolume}
 use Rattle.open_volume.specs.declared.OpenVolume.{OpenVolume}
-use Rattle.open_volume.specs.declared.Opened.{Opened}
-use Rattle.open_volume.specs.declared.Opened.the-variants.{Done, Refused}
 
--- 01, Answer numbers: DONE has as value "the home LBN (open volume)".
-unfoldable pub openedVolume : Outcome → ℕ → Opened
-openedVolume outcome.Passed home = Done (record { 0 = home })
-openedVolume (outcome.Refused r) home = Refused r
-
--- The answer of opening a volume.
-unfoldable pub volumeAnswer : List ℕ → Opened
-volumeAnswer image = openedVolume (openVolume image) (home image)
+-- The answer of opening a volume. 01, Answer numbers: DONE has as value "the home LBN (open volume)".
+unfoldable pub openVolumeAnswer : List ℕ → LbnAnswer
+openVolumeAnswer image = lbnAnswer (openVolume image) (home image)
 
 -- What opening tells: its outcome and, where that is passed, the volume record.
 abbrev pub TellsVolume : List ℕ → OpenVolume → List ℕ → Type 0

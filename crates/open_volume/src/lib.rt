@@ -1,4 +1,5 @@
 // Opening a volume: SIZE, HOME, GEOMETRY, INDEX, STORAGE, in this order.
+use answer::answers::LbnAnswer;
 use answer::outcome::Outcome;
 use answer::refusal::Refusal;
 use answer::types::FileNumber;
@@ -36,14 +37,7 @@ ghost use Rattle.home.specs.Home.{hIbsz, hIblb, hFmax, blocks, home};
 ghost use Rattle.volume.specs.Volume.{mapBlocks};
 ghost use Rattle.volume.specs.Opening.{sized, homed, geometry, alone, storageMapped, Laid};
 ghost use Rattle.volume.specs.Volume.{mapBlocks};
-ghost use Rattle.open_volume.specs.Answer.{volumeAnswer, TellsVolume};
-
-// The answer of opening a volume.
-pub enum Opened {
-    // The LBN of the home.
-    Done(Lbn),
-    Refused(Refusal),
-}
+ghost use Rattle.open_volume.specs.Answer.{openVolumeAnswer, TellsVolume};
 
 // Passed, and what calls on the volume need to know; or refused.
 pub struct OpenVolume {
@@ -245,8 +239,8 @@ pub fn open(image: &[u8], places: &mut Places) -> OpenVolume
 }
 
 // The answer of opening a volume.
-pub fn open_volume(image: &[u8]) -> Opened
-    ensures { λ r. ⌜ r ≡ volumeAnswer (now (image .entry)) ⌝ }
+pub fn open_volume(image: &[u8]) -> LbnAnswer
+    ensures { λ r. ⌜ r ≡ openVolumeAnswer (now (image .entry)) ⌝ }
 {
     let mut places = [0u32; 256];
     let o = open(image, &mut places);
@@ -254,7 +248,7 @@ pub fn open_volume(image: &[u8]) -> Opened
     let home = v.home;
     let result = o.outcome;
     match result {
-        Outcome::Passed => Opened::Done(home),
-        Outcome::Refused(r) => Opened::Refused(r),
+        Outcome::Passed => LbnAnswer::Done(home),
+        Outcome::Refused(r) => LbnAnswer::Refused(r),
     }
 }

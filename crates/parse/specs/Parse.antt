@@ -13,8 +13,8 @@ use Rattle.answer.specs.declared.types.Name.{Name}
 use Rattle.answer.specs.declared.refusal.Refusal.the-variants as refusal
 use Rattle.radix50.specs.Table.{codeOf, isDigit, isNameChar}
 use Rattle.radix50.specs.Words.{wordOf}
-use Rattle.parse.specs.declared.Named.{Named}
-use Rattle.parse.specs.declared.Named.the-variants.{Done, Refused}
+use Rattle.parse.specs.declared.TextToNameAnswer.{TextToNameAnswer}
+use Rattle.parse.specs.declared.TextToNameAnswer.the-variants.{Done, Refused}
 
 -- 01, Names and directories: "capitals or digits". Whether the character at a place is neither, and so ends NAME or TYP.
 unfoldable pub endsAt : List ℕ → ℕ → Bool
@@ -62,11 +62,11 @@ nameOf p y d = record {
 }
 
 -- 01, Names and directories: "`NAME.TYP;V`". NAME and TYP, p and y, are read, and d is left: V.
-unfoldable pub withVersion : List ℕ → List ℕ → List ℕ → Named
+unfoldable pub withVersion : List ℕ → List ℕ → List ℕ → TextToNameAnswer
 withVersion p y d = cond (isVersion d) (Done (nameOf p y d)) (Refused refusal.Name)
 
 -- 01, Names and directories: "`NAME.TYP;V`", a type "with 0 to 3" characters. NAME, p, is read, and s is left: TYP, a semicolon, V.
-unfoldable pub withType : List ℕ → List ℕ → Named
+unfoldable pub withType : List ℕ → List ℕ → TextToNameAnswer
 withType p s =
     cond (leb (span s) 3 && eqb (byteAt s (span s)) 59)
     (withVersion p (take (span s) s) (drop (span s + 1) s))
@@ -74,8 +74,8 @@ withType p s =
 
 -- 01, Names and directories: "1 to 9 capitals or digits", "the dot always there". The answer of the call from text to words.
 -- 01, Answer numbers: NAME where "not proper, text or words".
-unfoldable pub textToName : List ℕ → Named
-textToName t =
+unfoldable pub textToNameAnswer : List ℕ → TextToNameAnswer
+textToNameAnswer t =
     cond (leb 1 (span t) && leb (span t) 9 && eqb (byteAt t (span t)) 46)
     (withType (take (span t) t) (drop (span t + 1) t))
     (Refused refusal.Name)

@@ -9,10 +9,10 @@ ghost use mathlib.Core.Path.{_≡_};
 ghost use mathlib.Core.Bool.{cond};
 ghost use Prim.Native.Nat.{_≤_, _<_};
 ghost use lib.ListN.{length};
-ghost use Rattle.parse.specs.Parse.{span, Part, codeAt, partWord, valueTo, digitsTo, withVersion, withType, textToName};
+ghost use Rattle.parse.specs.Parse.{span, Part, codeAt, partWord, valueTo, digitsTo, withVersion, withType, textToNameAnswer};
 
 // The words of a text, or the refusal.
-pub enum Named {
+pub enum TextToNameAnswer {
     Done(Name),
     Refused(Refusal),
 }
@@ -73,13 +73,13 @@ fn number(d: &[u8]) -> u32
 }
 
 // The name of a name part, a type part and what follows the semicolon.
-fn with_version(p: &[u8], y: &[u8], d: &[u8]) -> Named
+fn with_version(p: &[u8], y: &[u8], d: &[u8]) -> TextToNameAnswer
     requires { ⌜ Part (now p) × Part (now y) ⌝ }
     ensures { λ r. ⌜ r ≡ withVersion (now (p .entry)) (now (y .entry)) (now (d .entry)) ⌝ }
 {
     let n = d.len();
     if 5 < n {
-        return Named::Refused(Refusal::Name);
+        return TextToNameAnswer::Refused(Refusal::Name);
     }
     let lead = byte_or_zero(d, 0);
     let v = number(d);
@@ -89,7 +89,7 @@ fn with_version(p: &[u8], y: &[u8], d: &[u8]) -> Named
         let name3 = part_word(p, 2);
         let typ = part_word(y, 0);
         let version = v as u16;
-        return Named::Done(Name {
+        return TextToNameAnswer::Done(Name {
             name1,
             name2,
             name3,
@@ -97,40 +97,40 @@ fn with_version(p: &[u8], y: &[u8], d: &[u8]) -> Named
             version,
         });
     }
-    Named::Refused(Refusal::Name)
+    TextToNameAnswer::Refused(Refusal::Name)
 }
 
 // The name of a name part and what follows the dot.
-fn with_type(p: &[u8], s: &[u8]) -> Named
+fn with_type(p: &[u8], s: &[u8]) -> TextToNameAnswer
     requires { ⌜ Part (now p) ⌝ }
     ensures { λ r. ⌜ r ≡ withType (now (p .entry)) (now (s .entry)) ⌝ }
 {
     let end = span(s);
     let mark = byte_or_zero(s, end);
     if 3 < end {
-        return Named::Refused(Refusal::Name);
+        return TextToNameAnswer::Refused(Refusal::Name);
     }
     if mark != b';' {
-        return Named::Refused(Refusal::Name);
+        return TextToNameAnswer::Refused(Refusal::Name);
     }
     let next = end + 1;
     with_version(p, &s[..end], &s[next..])
 }
 
 // The words of a text `NAME.TYP;V`.
-pub fn text_to_name(text: &[u8]) -> Named
-    ensures { λ r. ⌜ r ≡ textToName (now (text .entry)) ⌝ }
+pub fn text_to_name(text: &[u8]) -> TextToNameAnswer
+    ensures { λ r. ⌜ r ≡ textToNameAnswer (now (text .entry)) ⌝ }
 {
     let end = span(text);
     let mark = byte_or_zero(text, end);
     if end < 1 {
-        return Named::Refused(Refusal::Name);
+        return TextToNameAnswer::Refused(Refusal::Name);
     }
     if 9 < end {
-        return Named::Refused(Refusal::Name);
+        return TextToNameAnswer::Refused(Refusal::Name);
     }
     if mark != b'.' {
-        return Named::Refused(Refusal::Name);
+        return TextToNameAnswer::Refused(Refusal::Name);
     }
     let next = end + 1;
     with_type(&text[..end], &text[next..])

@@ -19,10 +19,10 @@ use Rattle.radix50.specs.Words.{codes}
 use Rattle.names.specs.Names.{blank, filled, kept, nameCodes, proper}
 use Rattle.radix50.proofs.TableLaws.{code-char}
 use Rattle.names.proofs.NameLaws.{filled-some, kept-most}
-use Rattle.parse.specs.declared.Named.{Named}
-use Rattle.parse.specs.declared.Named.the-variants.{Done, Refused}
+use Rattle.parse.specs.declared.TextToNameAnswer.{TextToNameAnswer}
+use Rattle.parse.specs.declared.TextToNameAnswer.the-variants.{Done, Refused}
 use Rattle.text.specs.Text.{decimal, textOf, nameText}
-use Rattle.parse.specs.Parse.{span, Part, partWord, valueTo, isVersion, nameOf, withVersion, withType, textToName}
+use Rattle.parse.specs.Parse.{span, Part, partWord, valueTo, isVersion, nameOf, withVersion, withType, textToNameAnswer}
 use Rattle.round_trip.specs.RoundTrip.{Accepted, RoundTrip}
 use Rattle.text.proofs.TextLaws.{name-text-most}
 use Rattle.parse.proofs.ParseLaws.{span-most, span-part, span-is}
@@ -51,8 +51,8 @@ no-semicolon = refl
 
 -- ---- from a name to its text and back
 
-name-step : (p s : List ℕ) → Part p → 1 ≤ length p → length p ≤ 9 → textToName (p ++ (46 ∷ s)) ≡ withType p s
-unfolding textToName
+name-step : (p s : List ℕ) → Part p → 1 ≤ length p → length p ≤ 9 → textToNameAnswer (p ++ (46 ∷ s)) ≡ withType p s
+unfolding textToNameAnswer
 name-step p s part some few =
     rw (mark p 46 s part no-dot, before p 46 s part no-dot, behind p 46 s part no-dot, span-is p 46 s part no-dot, le-leb 1 (length p) some, le-leb (length p) 9 few)
 
@@ -118,7 +118,7 @@ long-type : (w : ℕ) → length (kept (codes w)) ≤ 3
 unfolding codes
 long-type w = kept-most (codes w)
 
-back : (n : Name) → proper n ≡ true → textToName (nameText n) ≡ Done n
+back : (n : Name) → proper n ≡ true → textToNameAnswer (nameText n) ≡ Done n
 unfolding nameText textOf
 back n t =
     let r = proper-is n t in
@@ -132,11 +132,11 @@ back n t =
 
 -- ---- from an accepted text to its name and back
 
-record Chosen (b : Bool) (x : Named) (n : Name) : Type 0 where
+record Chosen (b : Bool) (x : TextToNameAnswer) (n : Name) : Type 0 where
   test : b ≡ true
   rest : x ≡ Done n
 
-chosen : (b : Bool) (x : Named) (r : Refusal) (n : Name) → cond b x (Refused r) ≡ Done n → Chosen b x n
+chosen : (b : Bool) (x : TextToNameAnswer) (r : Refusal) (n : Name) → cond b x (Refused r) ≡ Done n → Chosen b x n
 chosen true x r n e = record { test = refl; rest = e }
 chosen false x r n e = let z : _≡_ {A = ℕ} 0 1 = cc in absurd (omega arith)
 
@@ -171,8 +171,8 @@ unfolding nameText textOf nameOf
 accepted-text p y d part typ few small v =
     rw (name-codes p y d part, kept-from p part 0 9 few, type-codes y typ, kept-from y typ 0 3 small, v .same)
 
-forth : (t : List ℕ) (n : Name) → textToName t ≡ Done n → Accepted t n
-unfolding textToName withType withVersion
+forth : (t : List ℕ) (n : Name) → textToNameAnswer t ≡ Done n → Accepted t n
+unfolding textToNameAnswer withType withVersion
 forth t n e =
     let s = drop (span t + 1) t in
     let p = take (span t) t in

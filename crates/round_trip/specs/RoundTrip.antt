@@ -9,9 +9,9 @@ use Rattle.answer.specs.declared.types.Name.{Name}
 use Rattle.radix50.specs.Table.{charOf, nothing, codeOf}
 use Rattle.radix50.specs.Words.{wordOf, codes}
 use Rattle.names.specs.Names.{proper}
-use Rattle.parse.specs.declared.Named.the-variants.{Done}
+use Rattle.parse.specs.declared.TextToNameAnswer.the-variants.{Done}
 use Rattle.text.specs.Text.{nameText}
-use Rattle.parse.specs.Parse.{textToName}
+use Rattle.parse.specs.Parse.{textToNameAnswer}
 
 -- 01, Names and directories: "Text: `NAME.TYP;V`" of "a proper name". What is known of an accepted text: its words are a proper name, and it is their text.
 pub record Accepted (t : List ℕ) (n : Name) : Type 0 where
@@ -27,8 +27,8 @@ pub record RoundTrip : Type 0 where
   -- a word is that of its codes
   pub word-back : (w : ℕ) → wordOf (w / 1600) (w / 40 % 40) (w % 40) ≡ w
   -- the text of a proper name converts back to its words
-  pub back : (n : Name) → proper n ≡ true → textToName (nameText n) ≡ Done n
+  pub back : (n : Name) → proper n ≡ true → textToNameAnswer (nameText n) ≡ Done n
   -- every accepted text is the text of its words
-  pub forth : (t : List ℕ) (n : Name) → textToName t ≡ Done n → Accepted t n
+  pub forth : (t : List ℕ) (n : Name) → textToNameAnswer t ≡ Done n → Accepted t n
   -- 01, Names and directories: "room for 19 bytes"
   pub room : (n : Name) → proper n ≡ true → length (nameText n) ≤ 19

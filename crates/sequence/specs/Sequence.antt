@@ -8,16 +8,16 @@ use Rattle.answer.specs.declared.types.FileId.{FileId}
 use Rattle.answer.specs.declared.types.Name.{Name}
 use Rattle.header.specs.Fields.{hFseq}
 use Rattle.volume.specs.Volume.{header}
-use Rattle.open_file.specs.Opening.{openAnswer}
+use Rattle.open_file.specs.Opening.{openFileAnswer}
 use Rattle.mapping.specs.Mapping.{mapAnswer}
-use Rattle.look_up.specs.LookUp.{lookUp, nextRecord}
-use Rattle.file_facts.specs.Files.{fileAnswer}
+use Rattle.look_up.specs.LookUp.{lookUpAnswer, nextRecordAnswer}
+use Rattle.file_facts.specs.Files.{attributesAnswer}
 use Rattle.extents.specs.Extents.{extentAnswer}
 use Rattle.update.specs.Extend.{extendAnswer}
 use Rattle.update.specs.Delete.{deleteAnswer}
-use Rattle.file_words.specs.Words.{openedFileWords, mappedWords, blockWords, describedWords, extentWords}
-use Rattle.directory_words.specs.Words.{foundWords, steppedWords}
-use Rattle.change_words.specs.Words.{extendedWords, deletedWords}
+use Rattle.answer_words.specs.Words.{lbnWords, idWords, runWords, countWords, bareWords}
+use Rattle.file_words.specs.Words.{blockWords, attributesWords}
+use Rattle.directory_words.specs.Words.{nextRecordWords}
 
 -- The sequence number of the ID is not H.FSEQ of the header in the slot of its number.
 abbrev pub OtherSequence : List ℕ → FileId → Type 0
@@ -29,12 +29,12 @@ IsRefused words = getD words 0 0 ≡ 0 → ⊥
 
 -- On every image, each exported call that reads or changes a file by such an ID is refused. The work areas have lengths b and h.
 pub record SequenceAsked : Type 0 where
-  pub open-file : (image : List ℕ) (id : FileId) → OtherSequence image id → IsRefused (openedFileWords (openAnswer image id))
-  pub map : (image : List ℕ) (id : FileId) (vbn : ℕ) → OtherSequence image id → IsRefused (mappedWords (mapAnswer image id vbn))
+  pub open-file : (image : List ℕ) (id : FileId) → OtherSequence image id → IsRefused (countWords (openFileAnswer image id))
+  pub map : (image : List ℕ) (id : FileId) (vbn : ℕ) → OtherSequence image id → IsRefused (lbnWords (mapAnswer image id vbn))
   pub block : (image : List ℕ) (id : FileId) (vbn : ℕ) → OtherSequence image id → IsRefused (blockWords (mapAnswer image id vbn))
-  pub look-up : (image : List ℕ) (id : FileId) (name : Name) → OtherSequence image id → IsRefused (foundWords (lookUp image id name))
-  pub next-record : (image : List ℕ) (id : FileId) (place : ℕ) → OtherSequence image id → IsRefused (steppedWords (nextRecord image id place))
-  pub attributes : (image : List ℕ) (id : FileId) → OtherSequence image id → IsRefused (describedWords (fileAnswer image id))
-  pub extent : (image : List ℕ) (id : FileId) (vbn : ℕ) → OtherSequence image id → IsRefused (extentWords (extentAnswer image id vbn))
-  pub extend : (image : List ℕ) (id : FileId) (count b h : ℕ) → OtherSequence image id → IsRefused (extendedWords (extendAnswer image id count b h))
-  pub delete : (image : List ℕ) (id : FileId) (b h : ℕ) → OtherSequence image id → IsRefused (deletedWords (deleteAnswer image id b h))
+  pub look-up : (image : List ℕ) (id : FileId) (name : Name) → OtherSequence image id → IsRefused (idWords (lookUpAnswer image id name))
+  pub next-record : (image : List ℕ) (id : FileId) (place : ℕ) → OtherSequence image id → IsRefused (nextRecordWords (nextRecordAnswer image id place))
+  pub attributes : (image : List ℕ) (id : FileId) → OtherSequence image id → IsRefused (attributesWords (attributesAnswer image id))
+  pub extent : (image : List ℕ) (id : FileId) (vbn : ℕ) → OtherSequence image id → IsRefused (runWords (extentAnswer image id vbn))
+  pub extend : (image : List ℕ) (id : FileId) (count b h : ℕ) → OtherSequence image id → IsRefused (lbnWords (extendAnswer image id count b h))
+  pub delete : (image : List ℕ) (id : FileId) (b h : ℕ) → OtherSequence image id → IsRefused (bareWords (deleteAnswer image id b h))

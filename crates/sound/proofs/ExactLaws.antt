@@ -17,7 +17,7 @@ use Rattle.volume.specs.Volume.{fmax}
 use Rattle.volume.specs.Opening.{openVolume}
 use Rattle.volume.proofs.VolumeLaws.{opens}
 use Rattle.verdict.specs.declared.Counts.{Counts}
-use Rattle.verdict.specs.Verdict.{roomy, ready, verdict, countsOf, judged, verdictAnswer}
+use Rattle.verdict.specs.Verdict.{roomy, ready, verdict, countsOf, judgeBy, judgeAnswer}
 use Rattle.sound.specs.Sound.{BlockOf, Sound}
 use Rattle.sound.specs.Claims.{isDone, VerdictExact}
 use Rattle.sound.proofs.Tests.{Judges, j-map, j-then}
@@ -80,17 +80,17 @@ verdict-judges image b h room rest =
     j-then (twice-judges image (f .whole)) (λ once.
     j-then (home-judges image) (λ passed. map-judges image))))))
 
-done-judged : (o : Outcome) (counts : Counts) → isDone (judged o counts) ≡ true → o ≡ Passed
-unfolding judged
+done-judged : (o : Outcome) (counts : Counts) → isDone (judgeBy o counts) ≡ true → o ≡ Passed
+unfolding judgeBy
 done-judged Passed counts e = refl
 done-judged (Refused r) counts e = absurd (false≢true e)
 
-judged-done : (o : Outcome) (counts : Counts) → o ≡ Passed → isDone (judged o counts) ≡ true
-unfolding judged
+judged-done : (o : Outcome) (counts : Counts) → o ≡ Passed → isDone (judgeBy o counts) ≡ true
+unfolding judgeBy
 judged-done o counts e = rw e
 
 pub exact : VerdictExact
-unfolding verdictAnswer
+unfolding judgeAnswer
 exact image area headers room rest =
     let j = verdict-judges image (length area) (length headers) room rest in
     let o = verdict image (length area) (length headers) in

@@ -10,21 +10,21 @@ use Rattle.home.specs.Home.{blocks, position, homeIndex, home}
 use Rattle.volume.specs.Volume.{ibsz, iblb, fmax, slot, slots, header, inUse, mapBlocks, base}
 use Rattle.volume.specs.Opening.{openVolume}
 use Rattle.chains.specs.Chains.{fileBlocks}
-use Rattle.verdict.specs.declared.Judged.{Judged}
-use Rattle.verdict.specs.declared.Judged.the-variants.{Done, Refused}
-use Rattle.verdict.specs.Verdict.{claimed, free, verdictAnswer}
+use Rattle.verdict.specs.declared.JudgeAnswer.{JudgeAnswer}
+use Rattle.verdict.specs.declared.JudgeAnswer.the-variants.{Done, Refused}
+use Rattle.verdict.specs.Verdict.{claimed, free, judgeAnswer}
 use Rattle.sound.specs.Sound.{BlockOf, Safe, Sound}
 
 -- The verdict answers DONE.
-abbrev pub isDone : Judged → Bool
+abbrev pub isDone : JudgeAnswer → Bool
 isDone (Done counts) = true
 isDone (Refused r) = false
 
 -- 01, Demand 3: "An image is accepted where the verdict on it, with work areas of N and H.FMAX bytes or more and any content, answers DONE. It opens
 -- where none of 1 to 5 is given." 00, 3: "the verdict accepts an image exactly when it opens and is sound".
 pub record Exactly (image area headers : List ℕ) : Type 0 where
-  pub only : isDone (verdictAnswer image area headers) ≡ true → (openVolume image ≡ Passed) × Sound image
-  pub always : openVolume image ≡ Passed → Sound image → isDone (verdictAnswer image area headers) ≡ true
+  pub only : isDone (judgeAnswer image area headers) ≡ true → (openVolume image ≡ Passed) × Sound image
+  pub always : openVolume image ≡ Passed → Sound image → isDone (judgeAnswer image area headers) ≡ true
 
 abbrev pub VerdictExact : Type 0
 VerdictExact = (image area headers : List ℕ) → blocks image ≤ length area → fmax image ≤ length headers → Exactly image area headers

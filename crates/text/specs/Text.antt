@@ -9,10 +9,10 @@ use lib.ListN.{length}
 use Rattle.image.specs.Stores.{splice}
 use Rattle.answer.specs.declared.types.Name.{Name}
 use Rattle.answer.specs.declared.refusal.Refusal.the-variants as refusal
+use Rattle.answer.specs.declared.answers.CountAnswer.{CountAnswer}
+use Rattle.answer.specs.declared.answers.CountAnswer.the-variants.{Done, Refused}
 use Rattle.radix50.specs.Words.{codes}
 use Rattle.names.specs.Names.{kept, nameCodes, proper}
-use Rattle.text.specs.declared.Written.{Written}
-use Rattle.text.specs.declared.Written.the-variants.{Done, Refused}
 
 -- 01, Names and directories: "decimal without leading zero". The digits of a number that has at most k.
 unfoldable pub digits : ℕ → ℕ → List ℕ
@@ -33,9 +33,10 @@ textOf name typ version = kept name ++ (46 ∷ (kept typ ++ (59 ∷ decimal vers
 unfoldable pub nameText : Name → List ℕ
 nameText n = textOf (nameCodes n) (codes (n .typ)) (n .version)
 
--- The answer of the call from words to text, for a buffer of so many bytes. 01, Answer numbers: "Text calls: 28, then 14."
-unfoldable pub nameToText : Name → ℕ → Written
-nameToText n room =
+-- The answer of the call from words to text, for a buffer of so many bytes. 01, Answer numbers: DONE has as value the "text length"; "Text calls: 28,
+-- then 14."
+unfoldable pub nameToTextAnswer : Name → ℕ → CountAnswer
+nameToTextAnswer n room =
     cond (ltb room 19) (Refused refusal.Room)
     (cond (proper n) (Done (length (nameText n))) (Refused refusal.Name))
 

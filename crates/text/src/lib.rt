@@ -1,4 +1,5 @@
 // A name as text.
+use answer::answers::CountAnswer;
 use answer::refusal::Refusal;
 use answer::types::Name;
 use names::filled_length;
@@ -12,13 +13,7 @@ ghost use Prim.Native.Nat.{_+_, _≤_, _<_};
 ghost use lib.ListN.{length};
 ghost use Rattle.image.specs.Stores.{splice};
 ghost use Rattle.names.specs.Names.{filled, kept};
-ghost use Rattle.text.specs.Text.{decimal, textOf, nameToText, textAfter};
-
-// The length of a text that was written, or the refusal.
-pub enum Written {
-    Done(u32),
-    Refused(Refusal),
-}
+ghost use Rattle.text.specs.Text.{decimal, textOf, nameToTextAnswer, textAfter};
 
 // Writes the characters of filled codes, of which there are k.
 fn put_codes(text: &mut [u8], at: usize, cs: &[u8], k: usize)
@@ -95,11 +90,11 @@ fn put_name(
 }
 
 // Writes the text of a name into a buffer of at least 19 bytes; the bytes after it stay.
-pub fn name_to_text(n: Name, text: &mut [u8]) -> Written
-    ensures { λ r. ⌜ (r ≡ nameToText n (length (now (text .entry)))) × (now (text .exit) ≡ textAfter n (now (text .entry))) ⌝ }
+pub fn name_to_text(n: Name, text: &mut [u8]) -> CountAnswer
+    ensures { λ r. ⌜ (r ≡ nameToTextAnswer n (length (now (text .entry)))) × (now (text .exit) ≡ textAfter n (now (text .entry))) ⌝ }
 {
     if text.len() < 19 {
-        return Written::Refused(Refusal::Room);
+        return CountAnswer::Refused(Refusal::Room);
     }
     let version = n.version;
     let name = name_codes(n);
@@ -109,7 +104,7 @@ pub fn name_to_text(n: Name, text: &mut [u8]) -> Written
     let good = is_proper_parts(long, short, version);
     if good {
         let len = put_name(text, &name, long, &typ, short, version);
-        return Written::Done(len as u32);
+        return CountAnswer::Done(len as u32);
     }
-    Written::Refused(Refusal::Name)
+    CountAnswer::Refused(Refusal::Name)
 }

@@ -1,18 +1,16 @@
-// The answer words of the calls that turn names into text and text into names: each answer as the twelve words that an exported call
-// writes.
+// The answer words of the call that turns text into a name: its answer as the twelve words that an exported call writes.
 use answer::words::put_done;
 use answer::words::put_refused;
-use parse::Named;
-use text::Written;
+use parse::TextToNameAnswer;
 ghost use mathlib.Core.Path.{_≡_};
-ghost use Rattle.text_words.specs.Words.{namedWords, writtenWords};
+ghost use Rattle.text_words.specs.Words.{textToNameWords};
 
 // The words of a name.
-pub fn put_named(answer: &mut [u64; 12], named: Named)
-    ensures { λ _. ⌜ now (answer .exit) ≡ namedWords named ⌝ }
+pub fn put_text_to_name(answer: &mut [u64; 12], result: TextToNameAnswer)
+    ensures { λ _. ⌜ now (answer .exit) ≡ textToNameWords result ⌝ }
 {
-    match named {
-        Named::Done(n) => {
+    match result {
+        TextToNameAnswer::Done(n) => {
             put_done(
                 answer,
                 [
@@ -29,21 +27,7 @@ pub fn put_named(answer: &mut [u64; 12], named: Named)
                 ],
             );
         }
-        Named::Refused(r) => {
-            put_refused(answer, r);
-        }
-    }
-}
-
-// The words of a text that was written.
-pub fn put_written(answer: &mut [u64; 12], written: Written)
-    ensures { λ _. ⌜ now (answer .exit) ≡ writtenWords written ⌝ }
-{
-    match written {
-        Written::Done(length) => {
-            put_done(answer, [length as u64, 0, 0, 0, 0, 0, 0, 0, 0, 0]);
-        }
-        Written::Refused(r) => {
+        TextToNameAnswer::Refused(r) => {
             put_refused(answer, r);
         }
     }

@@ -243,11 +243,11 @@ module _ {image image′ : List ℕ} {S : ℕ → Type 0} (w : Written image ima
     unfolding volumeOf
     volume-same = λ i. record {
       blocks = blocks-same i;
-      home = home-same i;
+      home = record { 0 = home-same i };
       ibsz = ibsz-same i;
-      iblb = iblb-same i;
+      iblb = record { 0 = iblb-same i };
       fmax = fmax-same i;
-      base = base-same i;
+      base = record { 0 = base-same i };
       segments = length (places-after i);
     }
 

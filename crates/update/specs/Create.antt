@@ -7,15 +7,14 @@ use Rattle.answer.specs.declared.types.FileId.{FileId}
 use Rattle.answer.specs.declared.types.Name.{Name}
 use Rattle.answer.specs.declared.refusal.Refusal.the-variants as refusal
 use Rattle.answer.specs.declared.outcome.Outcome.{Outcome}
-use Rattle.answer.specs.declared.outcome.Outcome.the-variants as outcome
+use Rattle.answer.specs.declared.answers.IdAnswer.{IdAnswer}
 use Rattle.answer.specs.Outcome.{unless, _then_}
+use Rattle.answer.specs.Answers.{idAnswer}
 use Rattle.names.specs.Names.{proper}
 use Rattle.header.specs.Fields.{hFseq}
 use Rattle.fresh_header.specs.Fresh.{freshHeader}
 use Rattle.volume.specs.Volume.{ibsz, iblb, fmax, slot, header}
 use Rattle.verdict.specs.Verdict.{verdict, afterwards}
-use Rattle.update.specs.declared.answers.Created.{Created}
-use Rattle.update.specs.declared.answers.Created.the-variants.{Done, Refused}
 use Rattle.update.specs.Writes.{usedBit}
 use Rattle.spare_number.specs.SpareNumber.{spareNumber}
 
@@ -36,13 +35,9 @@ createOutcome image name b h = verdict image b h then createTests image name
 unfoldable pub newId : List ℕ → FileId
 newId image = record { number = spareNumber image; sequence = newSequence image (spareNumber image); volume = 0 }
 
-unfoldable pub created : Outcome → FileId → Created
-created outcome.Passed id = Done id
-created (outcome.Refused r) id = Refused r
-
--- The answer of create.
-unfoldable pub createAnswer : List ℕ → Name → ℕ → ℕ → Created
-createAnswer image name b h = created (createOutcome image name b h) (newId image)
+-- The answer of create. 01, Answer numbers: DONE has as value the "ID (look-up, create)".
+unfoldable pub createAnswer : List ℕ → Name → ℕ → ℕ → IdAnswer
+createAnswer image name b h = idAnswer (createOutcome image name b h) (newId image)
 
 -- Where the index map has the bit of number n. 01, Index file: "index map bit n−1".
 unfoldable pub indexBit : ℕ → ℕ

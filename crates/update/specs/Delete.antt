@@ -7,8 +7,9 @@ use Rattle.image.specs.Stores.{putBlock, putMapBits}
 use Rattle.answer.specs.declared.types.FileId.{FileId}
 use Rattle.answer.specs.declared.refusal.Refusal.the-variants as refusal
 use Rattle.answer.specs.declared.outcome.Outcome.{Outcome}
-use Rattle.answer.specs.declared.outcome.Outcome.the-variants as outcome
+use Rattle.answer.specs.declared.answers.BareAnswer.{BareAnswer}
 use Rattle.answer.specs.Outcome.{unless, _then_}
+use Rattle.answer.specs.Answers.{bareAnswer}
 use Rattle.header_edit.specs.Cleared.{clearedSlot}
 use Rattle.home.specs.Home.{blocks}
 use Rattle.volume.specs.Volume.{ibsz, iblb, header, mapBlocks, base}
@@ -16,8 +17,6 @@ use Rattle.chains.specs.Chains.{chainOf, slotsOf}
 use Rattle.pointers.specs.Pointers.{flat}
 use Rattle.open_file.specs.Opening.{openFile}
 use Rattle.verdict.specs.Verdict.{verdict, afterwards}
-use Rattle.update.specs.declared.answers.Deleted.{Deleted}
-use Rattle.update.specs.declared.answers.Deleted.the-variants.{Done, Refused}
 use Rattle.update.specs.Writes.{unusedBit, freeBit}
 use Rattle.update.specs.Create.{indexBit}
 use Rattle.update.specs.Extend.{isKnownNumber}
@@ -30,14 +29,9 @@ deleteTests image id = openFile image id then unless (not (isKnownNumber (id .nu
 unfoldable pub deleteOutcome : List ℕ → FileId → ℕ → ℕ → Outcome
 deleteOutcome image id b h = verdict image b h then deleteTests image id
 
--- 01, Answer numbers: DONE has as value "0 for delete".
-unfoldable pub deleted : Outcome → Deleted
-deleted outcome.Passed = Done
-deleted (outcome.Refused r) = Refused r
-
--- The answer of delete.
-unfoldable pub deleteAnswer : List ℕ → FileId → ℕ → ℕ → Deleted
-deleteAnswer image id b h = deleted (deleteOutcome image id b h)
+-- The answer of delete. 01, Answer numbers: DONE has as value "0 for delete".
+unfoldable pub deleteAnswer : List ℕ → FileId → ℕ → ℕ → BareAnswer
+deleteAnswer image id b h = bareAnswer (deleteOutcome image id b h)
 
 -- The bits of a list of numbers in the index map.
 unfoldable pub indexBits : List ℕ → List ℕ

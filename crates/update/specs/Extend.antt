@@ -8,8 +8,9 @@ use Rattle.image.specs.Stores.{putBlock, putMapBits}
 use Rattle.answer.specs.declared.types.FileId.{FileId}
 use Rattle.answer.specs.declared.refusal.Refusal.the-variants as refusal
 use Rattle.answer.specs.declared.outcome.Outcome.{Outcome}
-use Rattle.answer.specs.declared.outcome.Outcome.the-variants as outcome
+use Rattle.answer.specs.declared.answers.LbnAnswer.{LbnAnswer}
 use Rattle.answer.specs.Outcome.{unless, _then_}
+use Rattle.answer.specs.Answers.{lbnAnswer}
 use Rattle.header.specs.Fields.{mUse, mMax}
 use Rattle.header.specs.Flags.{isFixed}
 use Rattle.header_edit.specs.Extended.{extendedHeader}
@@ -19,8 +20,6 @@ use Rattle.runs.specs.Runs.{starts, lowestStart}
 use Rattle.chains.specs.Chains.{lastNumber}
 use Rattle.open_file.specs.Opening.{openFile}
 use Rattle.verdict.specs.Verdict.{verdict, afterwards}
-use Rattle.update.specs.declared.answers.Extended.{Extended}
-use Rattle.update.specs.declared.answers.Extended.the-variants.{Done, Refused}
 use Rattle.update.specs.Writes.{takenBit}
 
 -- 01, Answer numbers: "22 KNOWN | extend or delete of 1 to 5".
@@ -57,14 +56,9 @@ extendTests image id c =
 unfoldable pub extendOutcome : List ℕ → FileId → ℕ → ℕ → ℕ → Outcome
 extendOutcome image id c b h = verdict image b h then extendTests image id c
 
--- 01, Answer numbers: DONE has as value the "first new LBN (extend)".
-unfoldable pub extended : Outcome → ℕ → Extended
-extended outcome.Passed lbn = Done (record { 0 = lbn })
-extended (outcome.Refused r) lbn = Refused r
-
--- The answer of extend.
-unfoldable pub extendAnswer : List ℕ → FileId → ℕ → ℕ → ℕ → Extended
-extendAnswer image id c b h = extended (extendOutcome image id c b h) (runStart image c)
+-- The answer of extend. 01, Answer numbers: DONE has as value the "first new LBN (extend)".
+unfoldable pub extendAnswer : List ℕ → FileId → ℕ → ℕ → ℕ → LbnAnswer
+extendAnswer image id c b h = lbnAnswer (extendOutcome image id c b h) (runStart image c)
 
 -- The image with the c blocks from LBN s on taken, and then a pointer to them in the header of number n. 02, 11/14: "extend writes storage map, .. then
 -- the .. extended header".

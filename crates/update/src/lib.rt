@@ -1,3 +1,1 @@
 // Create, extend and delete: what they answer and what they leave, as definitions; the calls themselves stand in crates of their own.
-
-pub mod answers;

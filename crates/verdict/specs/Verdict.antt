@@ -19,8 +19,8 @@ use Rattle.links.specs.Links.{linked, links}
 use Rattle.covers.specs.Covered.{covered, twice, map}
 use Rattle.bad_home.specs.Homes.{badHome}
 use Rattle.verdict.specs.declared.Counts.{Counts}
-use Rattle.verdict.specs.declared.Judged.{Judged}
-use Rattle.verdict.specs.declared.Judged.the-variants.{Done, Refused}
+use Rattle.verdict.specs.declared.JudgeAnswer.{JudgeAnswer}
+use Rattle.verdict.specs.declared.JudgeAnswer.the-variants.{Done, Refused}
 
 -- 01, The verdict: "Two lent work areas, N and H.FMAX bytes or more." Areas of these lengths are long enough.
 unfoldable pub roomy : List ℕ → ℕ → ℕ → Bool
@@ -69,10 +69,10 @@ headersInUse image = howMany (inUse image) 1 (fmax image)
 unfoldable pub countsOf : List ℕ → Counts
 countsOf image = record { blocks = blocks image; claimed = claimed image; free = free image; headers = headersInUse image }
 
-unfoldable pub judged : Outcome → Counts → Judged
-judged outcome.Passed counts = Done counts
-judged (outcome.Refused r) counts = Refused r
+unfoldable pub judgeBy : Outcome → Counts → JudgeAnswer
+judgeBy outcome.Passed counts = Done counts
+judgeBy (outcome.Refused r) counts = Refused r
 
 -- The answer of the verdict.
-unfoldable pub verdictAnswer : List ℕ → List ℕ → List ℕ → Judged
-verdictAnswer image area headers = judged (verdict image (length area) (length headers)) (countsOf image)
+unfoldable pub judgeAnswer : List ℕ → List ℕ → List ℕ → JudgeAnswer
+judgeAnswer image area headers = judgeBy (verdict image (length area) (length headers)) (countsOf image)

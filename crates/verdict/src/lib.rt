@@ -31,7 +31,7 @@ ghost use Rattle.files.specs.Files.{files};
 ghost use Rattle.links.specs.Links.{linked, links};
 ghost use Rattle.covers.specs.Covered.{covered, twice, map};
 ghost use Rattle.bad_home.specs.Homes.{badHome};
-ghost use Rattle.verdict.specs.Verdict.{verdict, afterwards, headerMarks, blockMarks, countsOf, verdictAnswer};
+ghost use Rattle.verdict.specs.Verdict.{verdict, afterwards, headerMarks, blockMarks, countsOf, judgeAnswer};
 
 // The verdict's four counts.
 pub struct Counts {
@@ -46,7 +46,7 @@ pub struct Counts {
 }
 
 // The answer of the verdict.
-pub enum Judged {
+pub enum JudgeAnswer {
     Done(Counts),
     Refused(Refusal),
 }
@@ -167,8 +167,8 @@ fn count(image: &[u8], v: Volume, area: &[u8]) -> Counts
 }
 
 // The verdict.
-pub fn judge(image: &[u8], area: &mut [u8], headers: &mut [u8]) -> Judged
-    ensures { λ r. ⌜ (r ≡ verdictAnswer (now (image .entry)) (now (area .entry)) (now (headers .entry)))
+pub fn judge(image: &[u8], area: &mut [u8], headers: &mut [u8]) -> JudgeAnswer
+    ensures { λ r. ⌜ (r ≡ judgeAnswer (now (image .entry)) (now (area .entry)) (now (headers .entry)))
         × (now (area .exit) ≡ blockMarks (now (image .entry)) (now (area .entry)) (now (headers .entry)))
         × (now (headers .exit) ≡ headerMarks (now (image .entry)) (now (area .entry)) (now (headers .entry))) ⌝ }
 {
@@ -176,7 +176,7 @@ pub fn judge(image: &[u8], area: &mut [u8], headers: &mut [u8]) -> Judged
     let j = judge_volume(image, &mut places, area, headers);
     let result = j.outcome;
     match result {
-        Outcome::Passed => Judged::Done(count(image, j.volume, area)),
-        Outcome::Refused(r) => Judged::Refused(r),
+        Outcome::Passed => JudgeAnswer::Done(count(image, j.volume, area)),
+        Outcome::Refused(r) => JudgeAnswer::Refused(r),
     }
 }

@@ -1,16 +1,16 @@
 // The answer words of the verdict: its answer as the twelve words that an exported call writes.
 use answer::words::put_done;
 use answer::words::put_refused;
-use verdict::Judged;
+use verdict::JudgeAnswer;
 ghost use mathlib.Core.Path.{_≡_};
-ghost use Rattle.verdict_words.specs.Words.{judgedWords};
+ghost use Rattle.verdict_words.specs.Words.{judgeWords};
 
 // The words of what the verdict answers.
-pub fn put_judged(answer: &mut [u64; 12], judged: Judged)
-    ensures { λ _. ⌜ now (answer .exit) ≡ judgedWords judged ⌝ }
+pub fn put_judge(answer: &mut [u64; 12], result: JudgeAnswer)
+    ensures { λ _. ⌜ now (answer .exit) ≡ judgeWords result ⌝ }
 {
-    match judged {
-        Judged::Done(c) => {
+    match result {
+        JudgeAnswer::Done(c) => {
             put_done(
                 answer,
                 [
@@ -27,7 +27,7 @@ pub fn put_judged(answer: &mut [u64; 12], judged: Judged)
                 ],
             );
         }
-        Judged::Refused(r) => {
+        JudgeAnswer::Refused(r) => {
             put_refused(answer, r);
         }
     }

@@ -12,11 +12,11 @@ use Rattle.home.specs.Home.{hVlev, blocks, home}
 use Rattle.volume.specs.Volume.{ibsz, iblb, fmax, places, index, slots, base, mapBlocks}
 use Rattle.volume.specs.Opening.{openVolume}
 use Rattle.volume.proofs.VolumeLaws.{opens, home-below}
-use Rattle.volume_facts.specs.declared.Geometry.{Geometry}
-use Rattle.volume_facts.specs.declared.Laid.the-variants as laid
-use Rattle.volume_facts.specs.declared.Label.{Label}
-use Rattle.volume_facts.specs.declared.Labelled.the-variants as labelled
-use Rattle.volume_facts.specs.Volumes.{geometryOf, laidOut, geometryAnswer, labelIn, labelFrom, labelAnswer}
+use Rattle.volume_facts.specs.declared.types.Geometry.{Geometry}
+use Rattle.volume_facts.specs.declared.types.GeometryAnswer.the-variants as geometries
+use Rattle.volume_facts.specs.declared.types.Label.{Label}
+use Rattle.volume_facts.specs.declared.types.LabelAnswer.the-variants as labels
+use Rattle.volume_facts.specs.Volumes.{geometryOf, geometryBy, geometryAnswer, labelIn, labelBy, labelAnswer}
 
 module _ (image : List ℕ) where
   -- The home of a volume that opens has 512 bytes.
@@ -48,18 +48,18 @@ module _ (image : List ℕ) where
   }
 
   -- What is answered, by what opening the volume came to.
-  pub laid-refused : (r : Refusal) → openVolume image ≡ Refused r → laid.Refused r ≡ geometryAnswer image
-  unfolding geometryAnswer laidOut
-  laid-refused r e = rw e
+  pub geometry-refused : (r : Refusal) → openVolume image ≡ Refused r → geometries.Refused r ≡ geometryAnswer image
+  unfolding geometryAnswer geometryBy
+  geometry-refused r e = rw e
 
-  pub laid-done : openVolume image ≡ Passed → (g : Geometry) → g ≡ geometryOf image → laid.Done g ≡ geometryAnswer image
-  unfolding geometryAnswer laidOut
-  laid-done e g s = rw (e, s)
+  pub geometry-done : openVolume image ≡ Passed → (g : Geometry) → g ≡ geometryOf image → geometries.Done g ≡ geometryAnswer image
+  unfolding geometryAnswer geometryBy
+  geometry-done e g s = rw (e, s)
 
-  pub labelled-refused : (r : Refusal) → openVolume image ≡ Refused r → labelled.Refused r ≡ labelAnswer image
-  unfolding labelAnswer labelFrom
-  labelled-refused r e = rw e
+  pub label-refused : (r : Refusal) → openVolume image ≡ Refused r → labels.Refused r ≡ labelAnswer image
+  unfolding labelAnswer labelBy
+  label-refused r e = rw e
 
-  pub labelled-done : openVolume image ≡ Passed → (l : Label) → l ≡ labelIn (block image (home image)) → labelled.Done l ≡ labelAnswer image
-  unfolding labelAnswer labelFrom
-  labelled-done e l s = rw (e, s)
+  pub label-done : openVolume image ≡ Passed → (l : Label) → l ≡ labelIn (block image (home image)) → labels.Done l ≡ labelAnswer image
+  unfolding labelAnswer labelBy
+  label-done e l s = rw (e, s)

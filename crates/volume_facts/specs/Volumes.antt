@@ -9,12 +9,12 @@ use Rattle.answer.specs.declared.outcome.Outcome.the-variants as outcome
 use Rattle.home.specs.Home.{hVlev, blocks, home}
 use Rattle.volume.specs.Volume.{ibsz, iblb, fmax, places, slots, base, mapBlocks}
 use Rattle.volume.specs.Opening.{openVolume}
-use Rattle.volume_facts.specs.declared.Geometry.{Geometry}
-use Rattle.volume_facts.specs.declared.Laid.{Laid}
-use Rattle.volume_facts.specs.declared.Laid.the-variants as laid
-use Rattle.volume_facts.specs.declared.Label.{Label}
-use Rattle.volume_facts.specs.declared.Labelled.{Labelled}
-use Rattle.volume_facts.specs.declared.Labelled.the-variants as labelled
+use Rattle.volume_facts.specs.declared.types.Geometry.{Geometry}
+use Rattle.volume_facts.specs.declared.types.GeometryAnswer.{GeometryAnswer}
+use Rattle.volume_facts.specs.declared.types.GeometryAnswer.the-variants as geometries
+use Rattle.volume_facts.specs.declared.types.Label.{Label}
+use Rattle.volume_facts.specs.declared.types.LabelAnswer.{LabelAnswer}
+use Rattle.volume_facts.specs.declared.types.LabelAnswer.the-variants as labels
 
 -- Where the parts of a volume lie: N; the home's LBN; H.IBSZ, H.IBLB, H.FMAX; how many numbers have a slot; the LBN of the storage map's bits, and in how
 -- many blocks they lie; H.VLEV. 01, The volume, has the sentence for each. And how many headers the index file has: 02, 9/14, "all headers in the chain
@@ -33,13 +33,13 @@ geometryOf image = record {
   «index_headers» = length (places image);
 }
 
-unfoldable pub laidOut : Outcome → Geometry → Laid
-laidOut outcome.Passed g = laid.Done g
-laidOut (outcome.Refused r) g = laid.Refused r
+unfoldable pub geometryBy : Outcome → Geometry → GeometryAnswer
+geometryBy outcome.Passed g = geometries.Done g
+geometryBy (outcome.Refused r) g = geometries.Refused r
 
 -- Every call on a volume opens it first; 01, Answer numbers: 1 to 5.
-unfoldable pub geometryAnswer : List ℕ → Laid
-geometryAnswer image = laidOut (openVolume image) (geometryOf image)
+unfoldable pub geometryAnswer : List ℕ → GeometryAnswer
+geometryAnswer image = geometryBy (openVolume image) (geometryOf image)
 
 -- 000, 5.1.2.7: "H.VNAM 12 bytes Volume Name"; the fields before it have 14 bytes. Word k, from 0, of it.
 unfoldable pub hVnam : List ℕ → ℕ → ℕ
@@ -76,10 +76,10 @@ labelIn b = record {
   «default_protection» = hDfpr b;
 }
 
-unfoldable pub labelFrom : Outcome → Label → Labelled
-labelFrom outcome.Passed l = labelled.Done l
-labelFrom (outcome.Refused r) l = labelled.Refused r
+unfoldable pub labelBy : Outcome → Label → LabelAnswer
+labelBy outcome.Passed l = labels.Done l
+labelBy (outcome.Refused r) l = labels.Refused r
 
 -- The label of a volume; 01, Answer numbers: 1 to 5.
-unfoldable pub labelAnswer : List ℕ → Labelled
-labelAnswer image = labelFrom (openVolume image) (labelIn (block image (home image)))
+unfoldable pub labelAnswer : List ℕ → LabelAnswer
+labelAnswer image = labelBy (openVolume image) (labelIn (block image (home image)))

@@ -1,6 +1,9 @@
 // What a volume says of itself: where its parts lie, and its label.
+use crate::types::Geometry;
+use crate::types::GeometryAnswer;
+use crate::types::Label;
+use crate::types::LabelAnswer;
 use answer::outcome::Outcome;
-use answer::refusal::Refusal;
 use image::blocks::block;
 use image::words::word_at;
 use open_volume::open;
@@ -14,60 +17,7 @@ ghost use lib.ListN.{length};
 ghost use Rattle.volume.specs.Opening.{Recorded};
 ghost use Rattle.volume_facts.specs.Volumes.{geometryOf, geometryAnswer, labelIn, labelAnswer};
 
-// Where the parts of a volume lie.
-pub struct Geometry {
-    // N, the number of blocks.
-    pub blocks: u32,
-    // The LBN of the home.
-    pub home: u32,
-    // H.IBSZ.
-    pub ibsz: u32,
-    // H.IBLB.
-    pub iblb: u32,
-    // H.FMAX.
-    pub fmax: u32,
-    // How many file numbers have a slot.
-    pub slots: u32,
-    // The LBN of the storage map's bits.
-    pub map: u32,
-    // In how many blocks they lie.
-    pub map_blocks: u32,
-    // H.VLEV.
-    pub vlev: u16,
-    // How many headers the index file has.
-    pub index_headers: u32,
-}
-
-// The answer of asking where the parts of a volume lie.
-pub enum Laid {
-    Done(Geometry),
-    Refused(Refusal),
-}
-
-// The label in a volume's home block.
-pub struct Label {
-    // H.VNAM, as six words.
-    pub name1: u16,
-    pub name2: u16,
-    pub name3: u16,
-    pub name4: u16,
-    pub name5: u16,
-    pub name6: u16,
-    // H.VOWN.
-    pub owner: u16,
-    // H.VPRO.
-    pub protection: u16,
-    // H.VCHA.
-    pub characteristics: u16,
-    // H.DFPR.
-    pub default_protection: u16,
-}
-
-// The answer of asking for a volume's label.
-pub enum Labelled {
-    Done(Label),
-    Refused(Refusal),
-}
+pub mod types;
 
 // Where the parts of an opened volume lie.
 fn geometry_on(image: &[u8], v: Volume, places: &Places) -> Geometry
@@ -91,7 +41,7 @@ fn geometry_on(image: &[u8], v: Volume, places: &Places) -> Geometry
 }
 
 // Where the parts of a volume lie.
-pub fn geometry_of(image: &[u8]) -> Laid
+pub fn geometry(image: &[u8]) -> GeometryAnswer
     ensures { λ r. ⌜ r ≡ geometryAnswer (now (image .entry)) ⌝ }
 {
     let mut places = [0u32; 256];
@@ -99,8 +49,8 @@ pub fn geometry_of(image: &[u8]) -> Laid
     let v = opened.volume;
     let result = opened.outcome;
     match result {
-        Outcome::Passed => Laid::Done(geometry_on(image, v, &places)),
-        Outcome::Refused(r) => Laid::Refused(r),
+        Outcome::Passed => GeometryAnswer::Done(geometry_on(image, v, &places)),
+        Outcome::Refused(r) => GeometryAnswer::Refused(r),
     }
 }
 
@@ -124,7 +74,7 @@ fn label_in(b: &[u8]) -> Label
 }
 
 // The label of a volume.
-pub fn label_of(image: &[u8]) -> Labelled
+pub fn label(image: &[u8]) -> LabelAnswer
     ensures { λ r. ⌜ r ≡ labelAnswer (now (image .entry)) ⌝ }
 {
     let mut places = [0u32; 256];
@@ -132,7 +82,7 @@ pub fn label_of(image: &[u8]) -> Labelled
     let v = opened.volume;
     let result = opened.outcome;
     match result {
-        Outcome::Passed => Labelled::Done(label_in(block(image, v.home))),
-        Outcome::Refused(r) => Labelled::Refused(r),
+        Outcome::Passed => LabelAnswer::Done(label_in(block(image, v.home))),
+        Outcome::Refused(r) => LabelAnswer::Refused(r),
     }
 }

@@ -6,13 +6,12 @@ use Rattle.image.specs.Stores.{zeros}
 use Rattle.image.specs.Sums.{checksum}
 use Rattle.answer.specs.declared.refusal.Refusal.the-variants as refusal
 use Rattle.answer.specs.declared.types.FileId.{FileId}
+use Rattle.answer.specs.declared.answers.LbnAnswer.the-variants as lbns
 use Rattle.radix50.specs.declared.words.Characters.the-variants.{Done, Refused}
 use Rattle.radix50.specs.Words.{charactersOf}
 use Rattle.parse.specs.Parse.{partWord}
 use Rattle.volume.specs.Volume.{mapBlocks}
-use Rattle.mapping.specs.declared.Mapped.the-variants as mapped
 use Rattle.mapping.specs.Mapping.{mapAnswer}
-use Rattle.update.specs.declared.answers.Extended.the-variants as extended
 use Rattle.update.specs.Extend.{extendAnswer}
 use Rattle.volume_v.specs.VolumeV.{volumeV}
 
@@ -47,12 +46,12 @@ pub record Cases : Type 0 where
   pub fmax-4096 : mapBlocks 4096 ≡ 1
   pub fmax-4097 : mapBlocks 4097 ≡ 2
   -- "6,9 VBN 2 is LBN 31 (P)"
-  pub vbn-2 : mapAnswer volumeV file6 2 ≡ mapped.Done (record { 0 = 31 })
+  pub vbn-2 : mapAnswer volumeV file6 2 ≡ lbns.Done (record { 0 = 31 })
   -- "VBN 3 is 25 (P)"
-  pub vbn-3 : mapAnswer volumeV file6 3 ≡ mapped.Done (record { 0 = 25 })
+  pub vbn-3 : mapAnswer volumeV file6 3 ≡ lbns.Done (record { 0 = 25 })
   -- "VBN 4 refused (P)"
-  pub vbn-4 : mapAnswer volumeV file6 4 ≡ mapped.Refused refusal.Vbn
+  pub vbn-4 : mapAnswer volumeV file6 4 ≡ lbns.Refused refusal.Vbn
   -- "Extend by 4 takes 26 (P)". Here and below the work areas have N and H.FMAX bytes: 100 and 16.
-  pub extend-4 : extendAnswer volumeV file6 4 100 16 ≡ extended.Done (record { 0 = 26 })
+  pub extend-4 : extendAnswer volumeV file6 4 100 16 ≡ lbns.Done (record { 0 = 26 })
   -- "by 68 is RUN (P)"
-  pub extend-68 : extendAnswer volumeV file6 68 100 16 ≡ extended.Refused refusal.Run
+  pub extend-68 : extendAnswer volumeV file6 68 100 16 ≡ lbns.Refused refusal.Run

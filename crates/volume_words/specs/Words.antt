@@ -2,24 +2,15 @@
 use Prim.Native.Nat.{ℕ}
 use mathlib.Core.List.{List, [], _∷_}
 use Rattle.answer.specs.Words.{doneWords, refusedWords}
-use Rattle.open_volume.specs.declared.Opened.{Opened}
-use Rattle.open_volume.specs.declared.Opened.the-variants as opened
-use Rattle.free.specs.declared.Free.{Free}
-use Rattle.free.specs.declared.Free.the-variants as free
-use Rattle.volume_facts.specs.declared.Laid.{Laid}
-use Rattle.volume_facts.specs.declared.Laid.the-variants as laid
-use Rattle.volume_facts.specs.declared.Labelled.{Labelled}
-use Rattle.volume_facts.specs.declared.Labelled.the-variants as labelled
-
--- 01, Answer numbers: DONE has as value "the home LBN (open volume)".
-abbrev pub openedWords : Opened → List ℕ
-openedWords (opened.Done lbn) = doneWords (lbn .0 ∷ [])
-openedWords (opened.Refused r) = refusedWords r
+use Rattle.volume_facts.specs.declared.types.GeometryAnswer.{GeometryAnswer}
+use Rattle.volume_facts.specs.declared.types.GeometryAnswer.the-variants as geometries
+use Rattle.volume_facts.specs.declared.types.LabelAnswer.{LabelAnswer}
+use Rattle.volume_facts.specs.declared.types.LabelAnswer.the-variants as labels
 
 -- N, the home's LBN, H.IBSZ, H.IBLB, H.FMAX, how many numbers have a slot, LBN and number of the blocks of the storage map's bits, H.VLEV, how many
 -- headers the index file has.
-abbrev pub laidWords : Laid → List ℕ
-laidWords (laid.Done g) =
+abbrev pub geometryWords : GeometryAnswer → List ℕ
+geometryWords (geometries.Done g) =
     doneWords (
     g .blocks
     ∷ g .home
@@ -32,11 +23,11 @@ laidWords (laid.Done g) =
     ∷ g .vlev
     ∷ g .«index_headers»
     ∷ [])
-laidWords (laid.Refused r) = refusedWords r
+geometryWords (geometries.Refused r) = refusedWords r
 
 -- The six words of H.VNAM, H.VOWN, H.VPRO, H.VCHA, H.DFPR.
-abbrev pub labelledWords : Labelled → List ℕ
-labelledWords (labelled.Done l) =
+abbrev pub labelWords : LabelAnswer → List ℕ
+labelWords (labels.Done l) =
     doneWords (
     l .name1
     ∷ l .name2
@@ -49,9 +40,4 @@ labelledWords (labelled.Done l) =
     ∷ l .characteristics
     ∷ l .«default_protection»
     ∷ [])
-labelledWords (labelled.Refused r) = refusedWords r
-
--- The first LBN of the run, and how many blocks it has.
-abbrev pub freeWords : Free → List ℕ
-freeWords (free.Done lbn count) = doneWords (lbn .0 ∷ count ∷ [])
-freeWords (free.Refused r) = refusedWords r
+labelWords (labels.Refused r) = refusedWords r

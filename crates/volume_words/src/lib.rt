@@ -1,34 +1,17 @@
 // The answer words of the calls on a volume.
 use answer::words::put_done;
 use answer::words::put_refused;
-use free::Free;
-use open_volume::Opened;
-use volume_facts::Labelled;
-use volume_facts::Laid;
+use volume_facts::types::GeometryAnswer;
+use volume_facts::types::LabelAnswer;
 ghost use mathlib.Core.Path.{_≡_};
-ghost use Rattle.volume_words.specs.Words.{openedWords, laidWords, labelledWords, freeWords};
-
-// The words of a volume that was opened.
-pub fn put_opened(answer: &mut [u64; 12], opened: Opened)
-    ensures { λ _. ⌜ now (answer .exit) ≡ openedWords opened ⌝ }
-{
-    match opened {
-        Opened::Done(lbn) => {
-            let home = lbn.0;
-            put_done(answer, [home as u64, 0, 0, 0, 0, 0, 0, 0, 0, 0]);
-        }
-        Opened::Refused(r) => {
-            put_refused(answer, r);
-        }
-    }
-}
+ghost use Rattle.volume_words.specs.Words.{geometryWords, labelWords};
 
 // The words of where the parts of a volume lie.
-pub fn put_laid(answer: &mut [u64; 12], laid: Laid)
-    ensures { λ _. ⌜ now (answer .exit) ≡ laidWords laid ⌝ }
+pub fn put_geometry(answer: &mut [u64; 12], result: GeometryAnswer)
+    ensures { λ _. ⌜ now (answer .exit) ≡ geometryWords result ⌝ }
 {
-    match laid {
-        Laid::Done(g) => {
+    match result {
+        GeometryAnswer::Done(g) => {
             put_done(
                 answer,
                 [
@@ -45,18 +28,18 @@ pub fn put_laid(answer: &mut [u64; 12], laid: Laid)
                 ],
             );
         }
-        Laid::Refused(r) => {
+        GeometryAnswer::Refused(r) => {
             put_refused(answer, r);
         }
     }
 }
 
 // The words of a volume's label.
-pub fn put_labelled(answer: &mut [u64; 12], labelled: Labelled)
-    ensures { λ _. ⌜ now (answer .exit) ≡ labelledWords labelled ⌝ }
+pub fn put_label(answer: &mut [u64; 12], result: LabelAnswer)
+    ensures { λ _. ⌜ now (answer .exit) ≡ labelWords result ⌝ }
 {
-    match labelled {
-        Labelled::Done(l) => {
+    match result {
+        LabelAnswer::Done(l) => {
             put_done(
                 answer,
                 [
@@ -73,22 +56,7 @@ pub fn put_labelled(answer: &mut [u64; 12], labelled: Labelled)
                 ],
             );
         }
-        Labelled::Refused(r) => {
-            put_refused(answer, r);
-        }
-    }
-}
-
-// The words of a run of free blocks.
-pub fn put_free(answer: &mut [u64; 12], found: Free)
-    ensures { λ _. ⌜ now (answer .exit) ≡ freeWords found ⌝ }
-{
-    match found {
-        Free::Done(lbn, count) => {
-            let free = lbn.0;
-            put_done(answer, [free as u64, count as u64, 0, 0, 0, 0, 0, 0, 0, 0]);
-        }
-        Free::Refused(r) => {
+        LabelAnswer::Refused(r) => {
             put_refused(answer, r);
         }
     }

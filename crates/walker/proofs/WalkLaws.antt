@@ -18,9 +18,9 @@ use Rattle.records.specs.Records.{isEmpty, isWanted}
 use Rattle.records.specs.declared.Entry.{Entry}
 use Rattle.records.specs.declared.Wanted.the-variants.{Any}
 use Rattle.directory.specs.Search.{wantedAt, recordCount, firstWanted, entryOfFile}
-use Rattle.look_up.specs.LookUp.{findNext, nextRecord}
-use Rattle.look_up.specs.declared.Stepped.{Stepped}
-use Rattle.look_up.specs.declared.Stepped.the-variants.{Done, Refused}
+use Rattle.look_up.specs.LookUp.{findNext, nextRecordAnswer}
+use Rattle.look_up.specs.declared.NextRecordAnswer.{NextRecordAnswer}
+use Rattle.look_up.specs.declared.NextRecordAnswer.the-variants.{Done, Refused}
 use Rattle.look_up.proofs.LookUpLaws.{next-refused, next-absent, next-found}
 use Rattle.walker.specs.Walker.{placeAfter, Answers, Told, answered, walked, filledFrom, Walks}
 
@@ -69,34 +69,34 @@ module _ (image : List ℕ) (id : FileId) where
   }
 
   -- What the answer of a step tells: a record is found, there is none, or the file does not open.
-  pub told : (place : ℕ) → Told image id place (nextRecord image id place)
+  pub told : (place : ℕ) → Told image id place (nextRecordAnswer image id place)
   told place = go (openFile image id) refl (decLt (found place) count)
     where
-      go : (o : Outcome) → openFile image id ≡ o → Dec (found place < count) → Told image id place (nextRecord image id place)
+      go : (o : Outcome) → openFile image id ≡ o → Dec (found place < count) → Told image id place (nextRecordAnswer image id place)
       go outcome.Passed e (yes l) = rw (next-found image id place e (found place) refl l) (answers place l)
       go outcome.Passed e (no l) = rw (next-absent image id place e (omega arith)) (refl, λ _ i a b. empty-before place i a (omega arith))
       go (outcome.Refused r) e d = rw (next-refused image id place r e) (refl, λ p. absurd (refused-not r (sym e ∙ p)))
 
-  pub stays-there : (place : ℕ) (r : Refusal) → nextRecord image id place ≡ Refused r
-      → (placeAfter (nextRecord image id place) place ≡ place) × (nextRecord image id (placeAfter (nextRecord image id place) place) ≡ Refused Absent)
+  pub stays-there : (place : ℕ) (r : Refusal) → nextRecordAnswer image id place ≡ Refused r
+      → (placeAfter (nextRecordAnswer image id place) place ≡ place) × (nextRecordAnswer image id (placeAfter (nextRecordAnswer image id place) place) ≡ Refused Absent)
   unfolding placeAfter
   stays-there place r h =
       let t = rw h at (told place) in
       rw h (refl, h ∙ ap Refused (t .0))
 
   -- A walk at its end stays there, however many steps are left.
-  ended : (n place : ℕ) (r : Refusal) → nextRecord image id place ≡ Refused r → walked image id n place ≡ []
+  ended : (n place : ℕ) (r : Refusal) → nextRecordAnswer image id place ≡ Refused r → walked image id n place ≡ []
   unfolding walked answered placeAfter
   ended zero place r h = refl
   ended (suc n) place r h = rw h (ended n place r h)
 
   -- Two places from which the next step is the same.
-  steps-over : (n place : ℕ) → nextRecord image id place ≡ nextRecord image id (place + 1) → walked image id n place ≡ walked image id n (place + 1)
+  steps-over : (n place : ℕ) → nextRecordAnswer image id place ≡ nextRecordAnswer image id (place + 1) → walked image id n place ≡ walked image id n (place + 1)
   unfolding walked answered placeAfter
   steps-over zero place h = refl
-  steps-over (suc n) place h = go (nextRecord image id (place + 1)) refl
+  steps-over (suc n) place h = go (nextRecordAnswer image id (place + 1)) refl
     where
-      go : (s : Stepped) → nextRecord image id (place + 1) ≡ s → walked image id (suc n) place ≡ walked image id (suc n) (place + 1)
+      go : (s : NextRecordAnswer) → nextRecordAnswer image id (place + 1) ≡ s → walked image id (suc n) place ≡ walked image id (suc n) (place + 1)
       go (Done e next) q = rw (h, q)
       go (Refused r) q = ended (suc n) place r (h ∙ q) ∙ sym (ended (suc n) (place + 1) r q)
 
@@ -105,12 +105,12 @@ module _ (image : List ℕ) (id : FileId) where
   unfolding firstWanted
   found-on place l e = first-on wanted place count l (wanted-is place ∙ ap not e)
 
-  next-empty : (place : ℕ) → place < count → isEmpty (entry place) ≡ true → nextRecord image id place ≡ nextRecord image id (place + 1)
-  unfolding nextRecord findNext
+  next-empty : (place : ℕ) → place < count → isEmpty (entry place) ≡ true → nextRecordAnswer image id place ≡ nextRecordAnswer image id (place + 1)
+  unfolding nextRecordAnswer findNext
   next-empty place l e = rw (found-on place l e)
 
   module _ (opened : openFile image id ≡ outcome.Passed) where
-    next-filled : (place : ℕ) → place < count → isEmpty (entry place) ≡ false → nextRecord image id place ≡ Done (entry place) (place + 1)
+    next-filled : (place : ℕ) → place < count → isEmpty (entry place) ≡ false → nextRecordAnswer image id place ≡ Done (entry place) (place + 1)
     unfolding firstWanted
     next-filled place l e = next-found image id place opened place (sym (first-here wanted place count l (wanted-is place ∙ ap not e))) l
 

@@ -11,13 +11,13 @@ use Rattle.open_file.specs.Opening.{openFile}
 use Rattle.records.specs.Records.{isEmpty}
 use Rattle.records.specs.declared.Entry.{Entry}
 use Rattle.directory.specs.Search.{recordCount, entryOfFile}
-use Rattle.look_up.specs.LookUp.{nextRecord}
-use Rattle.look_up.specs.declared.Stepped.{Stepped}
-use Rattle.look_up.specs.declared.Stepped.the-variants.{Done, Refused}
+use Rattle.look_up.specs.LookUp.{nextRecordAnswer}
+use Rattle.look_up.specs.declared.NextRecordAnswer.{NextRecordAnswer}
+use Rattle.look_up.specs.declared.NextRecordAnswer.the-variants.{Done, Refused}
 
 -- 01, Names and directories, of the walker: "after the last it answers ABSENT and stays there". The place that a walk goes on from after a step
 -- from a place.
-unfoldable pub placeAfter : Stepped → ℕ → ℕ
+unfoldable pub placeAfter : NextRecordAnswer → ℕ → ℕ
 placeAfter (Done e next) place = next
 placeAfter (Refused r) place = place
 
@@ -34,14 +34,14 @@ pub record Answers (image : List ℕ) (id : FileId) (place : ℕ) (e : Entry) (n
 
 -- What the answer of a step from a place tells; where it is a refusal, that is ABSENT, and "after the last": in a file that opens each record
 -- from the place on is empty.
-abbrev pub Told : List ℕ → FileId → ℕ → Stepped → Type 0
+abbrev pub Told : List ℕ → FileId → ℕ → NextRecordAnswer → Type 0
 Told image id place (Done e next) = Answers image id place e next
 Told image id place (Refused r) =
     (r ≡ Absent)
     × (openFile image id ≡ outcome.Passed → (i : ℕ) → place ≤ i → i < recordCount image (id .number) → isEmpty (entryOfFile image (id .number) i) ≡ true)
 
 -- What the answer of a step adds to those before it.
-unfoldable pub answered : Stepped → List Entry → List Entry
+unfoldable pub answered : NextRecordAnswer → List Entry → List Entry
 answered (Done e next) es = e ∷ es
 answered (Refused r) es = es
 
@@ -49,7 +49,7 @@ answered (Refused r) es = es
 unfoldable pub walked : List ℕ → FileId → ℕ → ℕ → List Entry
 walked image id zero place = []
 walked image id (suc n) place =
-    let s = nextRecord image id place in
+    let s = nextRecordAnswer image id place in
     answered s (walked image id n (placeAfter s place))
 
 -- The entries in those of the d records from a place on that are not empty, in order.
@@ -63,15 +63,15 @@ filledFrom image id place (suc d) =
 -- 01, Names and directories, of the walker, sentence by sentence, on every image, for every ID and from every place.
 pub record Walks : Type 0 where
   -- "Each step answers the next record that is not empty".
-  pub step : (image : List ℕ) (id : FileId) (place : ℕ) → Told image id place (nextRecord image id place)
+  pub step : (image : List ℕ) (id : FileId) (place : ℕ) → Told image id place (nextRecordAnswer image id place)
   -- A step that is DONE goes on.
-  pub onward : (image : List ℕ) (id : FileId) (place : ℕ) (e : Entry) (next : ℕ) → nextRecord image id place ≡ Done e next → place < next
+  pub onward : (image : List ℕ) (id : FileId) (place : ℕ) (e : Entry) (next : ℕ) → nextRecordAnswer image id place ≡ Done e next → place < next
   -- "after the last it answers ABSENT and stays there": the place is the same, and so is the next answer.
-  pub stays : (image : List ℕ) (id : FileId) (place : ℕ) (r : Refusal) → nextRecord image id place ≡ Refused r
-      → (placeAfter (nextRecord image id place) place ≡ place)
-      × (nextRecord image id (placeAfter (nextRecord image id place) place) ≡ Refused Absent)
+  pub stays : (image : List ℕ) (id : FileId) (place : ℕ) (r : Refusal) → nextRecordAnswer image id place ≡ Refused r
+      → (placeAfter (nextRecordAnswer image id place) place ≡ place)
+      × (nextRecordAnswer image id (placeAfter (nextRecordAnswer image id place) place) ≡ Refused Absent)
   -- "opening one answers as opening its file does, and if refused it is there at once", whatever the place.
-  pub at-once : (image : List ℕ) (id : FileId) (place : ℕ) (r : Refusal) → openFile image id ≡ outcome.Refused r → nextRecord image id place ≡ Refused Absent
+  pub at-once : (image : List ℕ) (id : FileId) (place : ℕ) (r : Refusal) → openFile image id ≡ outcome.Refused r → nextRecordAnswer image id place ≡ Refused Absent
   -- A walk from the first record on, of as many steps as there are records or more, answers all that are not empty, in order, and no other.
   pub all : (image : List ℕ) (id : FileId) (n : ℕ) → openFile image id ≡ outcome.Passed → recordCount image (id .number) ≤ n
       → walked image id n 0 ≡ filledFrom image id 0 (recordCount image (id .number))

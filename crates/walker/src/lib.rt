@@ -1,14 +1,14 @@
 // A walk over the records of a directory: a struct that keeps the image it reads and its record place, and thin functions over it. The
 // borrow checker covers no function over a struct that holds a reference, so each is proved by hand; the work is done by `open_file`,
 // `next_record` and `place_after`, which take plain data and slices and are covered.
+use answer::answers::CountAnswer;
 use answer::types::FileId;
-use look_up::Stepped;
+use look_up::NextRecordAnswer;
 use look_up::next_record;
-use open_file::OpenedFile;
 use open_file::open_file;
 ghost use mathlib.Core.Path.{_≡_};
-ghost use Rattle.open_file.specs.Opening.{openAnswer};
-ghost use Rattle.look_up.specs.LookUp.{nextRecord};
+ghost use Rattle.open_file.specs.Opening.{openFileAnswer};
+ghost use Rattle.look_up.specs.LookUp.{nextRecordAnswer};
 ghost use Rattle.walker.specs.Walker.{placeAfter, Walks};
 
 // A walk: the image that is read, the directory's ID, and the place of the record to go on from.
@@ -30,32 +30,32 @@ pub fn open<'a>(image: &'a [u8], id: FileId) -> Walker<'a>
 }
 
 // The answer of opening the walk: that of opening its file.
-pub fn opening<'a>(w: Walker<'a>) -> OpenedFile
-    ensures { λ r. ⌜ r ≡ openAnswer (now (w .entry .image)) (w .entry .id) ⌝ }
+pub fn opening<'a>(w: Walker<'a>) -> CountAnswer
+    ensures { λ r. ⌜ r ≡ openFileAnswer (now (w .entry .image)) (w .entry .id) ⌝ }
 {
     open_file(w.image, w.id)
 }
 
 // The answer of the next step, with the walk left where it is.
-pub fn step<'a>(w: Walker<'a>) -> Stepped
-    ensures { λ r. ⌜ r ≡ nextRecord (now (w .entry .image)) (w .entry .id) (w .entry .place) ⌝ }
+pub fn step<'a>(w: Walker<'a>) -> NextRecordAnswer
+    ensures { λ r. ⌜ r ≡ nextRecordAnswer (now (w .entry .image)) (w .entry .id) (w .entry .place) ⌝ }
 {
     next_record(w.image, w.id, w.place)
 }
 
 // The place to go on from after a step from a place.
-fn place_after(answer: Stepped, place: u32) -> u32
+fn place_after(answer: NextRecordAnswer, place: u32) -> u32
     ensures { λ r. ⌜ r ≡ placeAfter answer place ⌝ }
 {
     match answer {
-        Stepped::Done(_, next) => next,
-        Stepped::Refused(_) => place,
+        NextRecordAnswer::Done(_, next) => next,
+        NextRecordAnswer::Refused(_) => place,
     }
 }
 
 // A step: the next record that is not empty, and the walk is moved past it; ABSENT where there is none, and the walk stays.
-pub fn next<'s, 'a>(w: &'s mut Walker<'a>) -> Stepped
-    ensures { λ r. ⌜ (r ≡ nextRecord (now (now (w .entry) .image)) (now (w .entry) .id) (now (w .entry) .place))
+pub fn next<'s, 'a>(w: &'s mut Walker<'a>) -> NextRecordAnswer
+    ensures { λ r. ⌜ (r ≡ nextRecordAnswer (now (now (w .entry) .image)) (now (w .entry) .id) (now (w .entry) .place))
         × (now (w .exit) .image ≡ now (w .entry) .image)
         × (now (w .exit) .id ≡ now (w .entry) .id)
         × (now (w .exit) .place ≡ placeAfter r (now (w .entry) .place)) ⌝ }

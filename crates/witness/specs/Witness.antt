@@ -6,7 +6,7 @@ use Prim.Native.Nat.{ℕ, _≤_}
 use lib.ListN.{length}
 use Rattle.answer.specs.declared.outcome.Outcome.the-variants.{Passed}
 use Rattle.volume.specs.Opening.{openVolume}
-use Rattle.verdict.specs.Verdict.{verdictAnswer}
+use Rattle.verdict.specs.Verdict.{judgeAnswer}
 use Rattle.sound.specs.Sound.{Sound}
 use Rattle.sound.specs.Claims.{isDone}
 use Rattle.volume_v.specs.VolumeV.{volumeV}
@@ -16,4 +16,4 @@ pub record Accepted : Type 0 where
   pub opens : openVolume volumeV ≡ Passed
   pub sound : Sound volumeV
   -- With work areas of N and H.FMAX bytes or more, whatever they hold.
-  pub accepted : (area headers : List ℕ) → 100 ≤ length area → 16 ≤ length headers → isDone (verdictAnswer volumeV area headers) ≡ true
+  pub accepted : (area headers : List ℕ) → 100 ≤ length area → 16 ≤ length headers → isDone (judgeAnswer volumeV area headers) ≡ true

@@ -7,11 +7,12 @@ use denote.Ref.{now}
 use lib.ListN.{length}
 use Rattle.image.specs.Stores.{zeros}
 use Rattle.answer.specs.declared.outcome.Outcome.the-variants as outcome
+use Rattle.answer.proofs.AnswerLaws.{id-refused}
 use Rattle.verdict.specs.Verdict.{verdict}
 use Rattle.verdict.proofs.PassedLaws.{passed-opens}
 use Rattle.update.specs.Create.{createAnswer, createImage}
 use Rattle.update.proofs.DoneLaws.{image-refused}
-use Rattle.create.proofs.CreateLaws.{answer-refused, judged-refused, judged-passed}
+use Rattle.create.proofs.CreateLaws.{judged-refused, judged-passed}
 use Rattle.create.proofs.create.Statement.{statement}
 use Rattle.create.proofs.create.Tie as tie
 
@@ -61,7 +62,7 @@ returns-2 c =
     let a = start j .args in
     let v = j .judge-volume .ensures in
     let o = judged-refused (image j) (a .name) (area j) (headers j) _ (sym (v .0) ∙ r .outcome .given .1) in
-    (answer-refused _ _ _ o, image-refused _ _ _ _ o, v .2, v .3)
+    (id-refused _ _ _ o, image-refused _ _ _ _ o, v .2, v .3)
 
 pub create-spec : {M : Type 1} → statement M
 create-spec =

@@ -5,12 +5,13 @@ use mathlib.Core.Bool.{true}
 use native.Mathlib.Omega.{arith}
 use denote.Ref.{now}
 use borrow.Author.Tests.{not-true, not-false}
+use Rattle.answer.specs.Answers.{idAnswer}
+use Rattle.answer.proofs.AnswerLaws.{id-refused}
 use Rattle.names.specs.Names.{proper}
 use Rattle.volume.proofs.VolumeLaws.{says}
 use Rattle.verdict.specs.Verdict.{afterwards}
-use Rattle.update.specs.Create.{created}
 use Rattle.update.proofs.DoneLaws.{image-refused}
-use Rattle.create.proofs.CreateLaws.{tests-improper, tests-none, tests-passed, answer-refused}
+use Rattle.create.proofs.CreateLaws.{tests-improper, tests-none, tests-passed}
 use Rattle.create.proofs.create_on.Statement.{statement}
 use Rattle.create.proofs.create_on.Tie as tie
 
@@ -22,7 +23,7 @@ returns c =
     let p = c .before .is-proper in
     let a = c .before .before .before .args in
     let o = tests-improper (now (a .image)) (a .name) (sym (p .ensures) ∙ not-true (p .result) (c .if1 .taken)) in
-    (answer-refused _ _ _ o, image-refused _ _ _ _ o)
+    (id-refused _ _ _ o, image-refused _ _ _ _ o)
 
 returns-2 : tie.Need-returns-2
 returns-2 c =
@@ -31,7 +32,7 @@ returns-2 c =
     let s = e .before .before .before in
     let a = s .args in
     let o = tests-none (now (a .image)) (a .name) (good e) (omega (arith, f .spare-number .ensures, says (now (a .image)) (a .v) (s .pre .1) .fmax)) in
-    (answer-refused _ _ _ o, image-refused _ _ _ _ o)
+    (id-refused _ _ _ o, image-refused _ _ _ _ o)
 
 put-file-requires : tie.Need-put-file-requires
 put-file-requires c κs =
@@ -39,7 +40,7 @@ put-file-requires c κs =
     (f .before .before .before .before .before .pre, f .spare-number .ensures, omega arith)
 
 returns-3 : tie.Need-returns-3
-unfolding created afterwards
+unfolding idAnswer afterwards
 returns-3 c =
     let p = c .before .before in
     let f = p .before .before .before .before in

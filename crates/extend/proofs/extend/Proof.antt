@@ -8,13 +8,15 @@ use borrow.Author.Needs.{needs}
 use Rattle.image.specs.Stores.{zeros}
 use Rattle.answer.specs.declared.outcome.Outcome.{Outcome}
 use Rattle.answer.specs.declared.outcome.Outcome.the-variants as outcome
+use Rattle.answer.specs.Answers.{lbnAnswer}
+use Rattle.answer.proofs.AnswerLaws.{lbn-refused}
 use Rattle.verdict.specs.Verdict.{verdict, afterwards}
 use Rattle.verdict.proofs.PassedLaws.{passed-opens, passed-room}
 use Rattle.sound.proofs.ExactLaws.{verdict-judges}
 use Rattle.chains.specs.Chains.{lastNumber}
-use Rattle.update.specs.Extend.{runStart, extended, extendAnswer, withBlocks, extendImage}
+use Rattle.update.specs.Extend.{runStart, extendAnswer, withBlocks, extendImage}
 use Rattle.update.proofs.DoneLaws.{image-refused}
-use Rattle.extend_plan.proofs.TestLaws.{outcome-passed, outcome-refused, answer-refused}
+use Rattle.extend_plan.proofs.TestLaws.{outcome-passed, outcome-refused}
 use Rattle.extend.proofs.extend.Statement.{statement}
 use Rattle.extend.proofs.extend.Tie as tie
 
@@ -58,7 +60,7 @@ returns c =
     let v = j .judge-volume .ensures in
     let o = sym (outcome-passed (image j) (a .id) (a .c) (area j) (headers j) (passed t)) in
     let s = runStart (image j) (a .c) in (
-      f .extend-on .ensures .0 ∙ ap (λ (x : Outcome). extended x s) o,
+      f .extend-on .ensures .0 ∙ ap (λ (x : Outcome). lbnAnswer x s) o,
       f .extend-on .ensures .1 ∙ ap (λ (x : Outcome). afterwards x (image j) (withBlocks (image j) (lastNumber (image j) (a .id .number)) s (a .c))) o,
       v .2,
       v .3,
@@ -72,7 +74,7 @@ returns-2 c =
     let a = start j .args in
     let v = j .judge-volume .ensures in
     let o = outcome-refused (image j) (a .id) (a .c) (area j) (headers j) _ (sym (v .0) ∙ r .result .given .1) in
-    (answer-refused _ _ _ o, image-refused _ _ _ _ o, v .2, v .3)
+    (lbn-refused _ _ _ o, image-refused _ _ _ _ o, v .2, v .3)
 
 pub extend-spec : {M : Type 1} → statement M
 extend-spec =

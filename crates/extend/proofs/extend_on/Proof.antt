@@ -5,6 +5,7 @@ use Prim.Native.Nat.{ℕ}
 use native.Mathlib.Omega.{arith}
 use denote.Ref.{now}
 use borrow.Author.Needs.{needs}
+use Rattle.answer.proofs.AnswerLaws.{lbn-done, lbn-refused}
 use Rattle.volume.specs.Volume.{slot}
 use Rattle.volume.proofs.VolumeLaws.{opens}
 use Rattle.chains.specs.Chains.{lastNumber}
@@ -13,7 +14,7 @@ use Rattle.update.proofs.Effects.{Usable}
 use Rattle.update.proofs.PassedLaws.{extend-tested}
 use Rattle.extend_plan.specs.declared.Plan.the-variants as plan
 use Rattle.update.proofs.DoneLaws.{image-refused, image-done}
-use Rattle.extend_plan.proofs.TestLaws.{Plans, plans, answer-done, answer-refused}
+use Rattle.extend_plan.proofs.TestLaws.{Plans, plans}
 use Rattle.extend.proofs.TakeLaws.{takes, taken}
 use Rattle.extend.proofs.extend_on.Statement.{statement}
 use Rattle.extend.proofs.extend_on.Tie as tie
@@ -61,7 +62,7 @@ returns c =
     let t = f .before .before .before in
     let p = t .before .before in
     let a = start p .args in (
-      answer-done _ _ _ (told t .0) (told t .2),
+      lbn-done _ _ _ (told t .0) (told t .2),
       f .take .ensures ∙ taken (image p) (last p) (lbn p) (a .c) _ _ (told t .1) (told t .2) ∙ image-done _ (image p) _ (told t .0),
     )
 
@@ -69,7 +70,7 @@ returns-2 : tie.Need-returns-2
 returns-2 c =
     let p = c .before .before .before in
     let o = plans _ _ _ _ (sym (c .before .plan2 .given .1) ∙ p .plan-on .ensures) in
-    (answer-refused _ _ _ o, image-refused _ _ _ _ o)
+    (lbn-refused _ _ _ o, image-refused _ _ _ _ o)
 
 pub extend-on-spec : {M : Type 1} → statement M
 extend-on-spec =

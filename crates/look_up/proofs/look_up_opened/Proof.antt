@@ -8,7 +8,7 @@ use Rattle.names.specs.Names.{proper}
 use Rattle.records.specs.declared.Entry.{Entry}
 use Rattle.records.specs.declared.Wanted.the-variants.{Named}
 use Rattle.directory.specs.Search.{FileOpen, firstWanted}
-use Rattle.look_up.specs.declared.Found.the-variants.{Done}
+use Rattle.answer.specs.declared.answers.IdAnswer.the-variants.{Done}
 use Rattle.look_up.proofs.LookUpLaws.{opened-file, search-wanted, look-improper, look-absent, look-found}
 use Rattle.directory.proofs.SearchLaws.{records-inside}
 use Rattle.look_up.proofs.look_up_opened.Statement.{statement}

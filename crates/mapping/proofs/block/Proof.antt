@@ -2,7 +2,7 @@
 use borrow.Author.Needs.{needs}
 use mathlib.Core.Path.{_≡_, sym, _∙_}
 use denote.Ref.{now}
-use Rattle.mapping.specs.declared.Mapped.the-variants.{Done}
+use Rattle.answer.specs.declared.answers.LbnAnswer.the-variants.{Done}
 use Rattle.mapping.specs.Mapping.{mapAnswer, blockOf}
 use Rattle.mapping.proofs.block.Statement.{statement}
 use Rattle.mapping.proofs.block.Tie as tie

@@ -3,8 +3,9 @@ use borrow.Author.Needs.{needs}
 use mathlib.Core.Path.{refl, sym, _∙_}
 use denote.Ref.{now}
 use Rattle.image.specs.Stores.{zeros}
+use Rattle.answer.specs.Answers.{lbnAnswer}
 use Rattle.home.specs.Home.{home}
-use Rattle.open_volume.specs.Answer.{openedVolume, volumeAnswer}
+use Rattle.open_volume.specs.Answer.{openVolumeAnswer}
 use Rattle.volume.proofs.VolumeLaws.{says}
 use Rattle.open_volume.proofs.open_volume.Statement.{statement}
 use Rattle.open_volume.proofs.open_volume.Tie as tie
@@ -15,7 +16,7 @@ unfolding zeros
 open-requires c κs = refl
 
 returns : tie.Need-returns
-unfolding volumeAnswer openedVolume
+unfolding openVolumeAnswer lbnAnswer
 returns c =
     let o = c .before .before .before .before in
     let image = now (o .before .before .before .args .image) in
@@ -23,7 +24,7 @@ returns c =
     rw (e, ← says image (o .«open» .result .volume) (o .«open» .ensures .1 e) .home)
 
 returns-2 : tie.Need-returns-2
-unfolding volumeAnswer openedVolume
+unfolding openVolumeAnswer lbnAnswer
 returns-2 c =
     let o = c .before .before .before .before .before in
     rw (sym (o .«open» .ensures .0) ∙ c .before .result .given .1)

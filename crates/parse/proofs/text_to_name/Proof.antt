@@ -8,7 +8,7 @@ use borrow.Author.Tests.{eq-eqb, ne-eqb, le-leb, lt-leb}
 use lib.ListN.{length, take, drop, length-drop}
 use lib.Seq.{length-take-le, take-all}
 use Rattle.image.proofs.WordLaws.{byte-inside}
-use Rattle.parse.specs.Parse.{withType, textToName}
+use Rattle.parse.specs.Parse.{withType, textToNameAnswer}
 use Rattle.parse.proofs.ParseLaws.{span-part}
 use Rattle.parse.proofs.text_to_name.Statement.{statement}
 use Rattle.parse.proofs.text_to_name.Tie as tie
@@ -19,17 +19,17 @@ end-inside c =
     byte-inside (now (b .before .before .before .args .text)) (b .before .span .result) 46 (sym (b .byte-or-zero .ensures) ∙ omega arith) (omega arith)
 
 returns : tie.Need-returns
-unfolding textToName
+unfolding textToNameAnswer
 returns c = rw (← c .before .before .span .ensures, lt-leb 1 (c .before .before .span .result) (omega arith))
 
 returns-2 : tie.Need-returns-2
-unfolding textToName
+unfolding textToNameAnswer
 returns-2 c =
     let end = c .before .before .before .span .result in
     rw (← c .before .before .before .span .ensures, le-leb 1 end (omega arith), lt-leb end 9 (omega arith))
 
 returns-3 : tie.Need-returns-3
-unfolding textToName
+unfolding textToNameAnswer
 returns-3 c =
     let b = c .before .before .before in
     let end = b .before .span .result in
@@ -52,7 +52,7 @@ with-type-requires c κs =
     rw (e .span .ensures) (span-part (now (e .before .before .args .text)))
 
 returns-4 : tie.Need-returns-4
-unfolding textToName
+unfolding textToNameAnswer
 returns-4 c =
     let b = c .before .before .before .before .before .before in
     let text = now (b .before .before .before .args .text) in

@@ -8,7 +8,7 @@ use borrow.Author.Tests.{lt-ltb, le-ltb}
 use lib.ListN.{length}
 use Rattle.names.specs.Names.{proper}
 use Rattle.names.proofs.ProperLaws.{proper-parts, parts-known, part-known}
-use Rattle.text.specs.Text.{nameText, nameToText, textAfter}
+use Rattle.text.specs.Text.{nameText, nameToTextAnswer, textAfter}
 use Rattle.text.proofs.TextLaws.{name-text-most}
 use Rattle.text.proofs.name_to_text.Statement.{statement}
 use Rattle.text.proofs.name_to_text.Tie as tie
@@ -31,7 +31,7 @@ text-is c =
     c .put-name .ensures .0 ∙ rw (k .name-codes .ensures, c .before .before .before .before .before .before .before .before .before .before .codes-of .ensures) refl
 
 returns : tie.Need-returns
-unfolding nameToText textAfter
+unfolding nameToTextAnswer textAfter
 returns c =
     let a = c .before .before .args in
     let short = lt-ltb (length (now (a .text))) 19 (omega arith) in
@@ -55,7 +55,7 @@ cast-t25 : tie.Need-cast-t25
 cast-t25 c = omega (arith, text-is (c .before .before), name-text-most (c .before .before .before .before .before .before .before .before .before .before .before .before .before .before .before .before .args .n))
 
 returns-2 : tie.Need-returns-2
-unfolding nameToText textAfter nameText
+unfolding nameToTextAnswer textAfter nameText
 returns-2 c =
     let p = c .before .before in
     let t = p .before .before .before .before in
@@ -66,7 +66,7 @@ returns-2 c =
     (rw (long, good, ← text-is p), rw (long, good) (p .put-name .ensures .1 ∙ rw (k .name-codes .ensures, t .before .before .before .before .before .before .codes-of .ensures) refl))
 
 returns-3 : tie.Need-returns-3
-unfolding nameToText textAfter
+unfolding nameToTextAnswer textAfter
 returns-3 c =
     let a = c .before .before .before .before .before .before .before .before .before .before .args in
     let long = le-ltb (length (now (a .text))) 19 (omega arith) in

@@ -12,7 +12,7 @@ use Rattle.home.specs.Home.{blocks}
 use Rattle.marks.proofs.MarkLaws.{tallied-length}
 use Rattle.links.proofs.LinksLaws.{tallied-still}
 use Rattle.covers.specs.Covered.{covered}
-use Rattle.verdict.specs.Verdict.{verdict, judged, verdictAnswer}
+use Rattle.verdict.specs.Verdict.{verdict, judgeBy, judgeAnswer}
 use Rattle.verdict.proofs.PassedLaws.{passed-opens, passed-room, passed-marks}
 use Rattle.verdict.proofs.judge.Statement.{statement}
 use Rattle.verdict.proofs.judge.Tie as tie
@@ -52,14 +52,14 @@ count-requires c κs =
     )
 
 returns : tie.Need-returns
-unfolding verdictAnswer judged
+unfolding judgeAnswer judgeBy
 returns c =
     let t = c .before .before in
     let v = judging t .judge-volume .ensures in
     (rw (passed t, c .count .ensures) refl, v .2, v .3)
 
 returns-2 : tie.Need-returns-2
-unfolding verdictAnswer judged
+unfolding judgeAnswer judgeBy
 returns-2 c =
     let r = c .before in
     let v = r .before .before .before .before .before .before .judge-volume .ensures in

@@ -49,10 +49,10 @@ use Rattle.walker.proofs.place_after as after
 use Rattle.walker.proofs.next as next
 use Rattle.answer.proofs.types.FileId as F
 use Rattle.answer.proofs.types.FileId.Laws as F′
-use Rattle.look_up.specs.LookUp.{nextRecord}
-use Rattle.look_up.specs.declared.Stepped.{Stepped}
-use Rattle.look_up.proofs.Stepped as S
-use Rattle.look_up.proofs.Stepped.Laws as S′
+use Rattle.look_up.specs.LookUp.{nextRecordAnswer}
+use Rattle.look_up.specs.declared.NextRecordAnswer.{NextRecordAnswer}
+use Rattle.look_up.proofs.NextRecordAnswer as S
+use Rattle.look_up.proofs.NextRecordAnswer.Laws as S′
 use Rattle.look_up.proofs.next_record as record-next
 use Rattle.look_up.proofs.next_record.Symbol as record-def
 use Rattle.look_up.proofs.next_record.Symbol.{name as #next-record}
@@ -104,8 +104,8 @@ module _ {M : Type 1} (𝓤 : URA M) (H : Heap 𝓤) (A : Atoms 𝓤) (W : Given
   abbrev h′ : ℕ → Walker
   h′ p = record { image = h .image; id = h .id; place = p }
 
-  abbrev found : Stepped
-  found = nextRecord (now (h .image)) (h .id) (h .place)
+  abbrev found : NextRecordAnswer
+  found = nextRecordAnswer (now (h .image)) (h .id) (h .place)
 
   abbrev Post : Val → SProp 𝓤
   Post = walkOf 𝓤 H A next.ended stayed (next.clauses 𝓤 H A at-mem run) .post (((κ, (κ′, tt)), (q, (q′, tt)), bounds, x, at), tt)
@@ -133,7 +133,7 @@ module _ {M : Type 1} (𝓤 : URA M) (H : Heap 𝓤) (A : Atoms 𝓤) (W : Given
   abbrev passed-on : Val → Vals after.signature tt
   passed-on u = (u ∷ [], (vint w32 (h .place) ∷ [], tt))
 
-  abbrev to-after : Stepped → Val → PlaceAfter 𝓤 H A at-mem run .Ghost
+  abbrev to-after : NextRecordAnswer → Val → PlaceAfter 𝓤 H A at-mem run .Ghost
   to-after r u = ((tt, tt, tt, (r, (h .place, tt)), passed-on u), tt)
 
   asked : ent 𝓤 (onEntry 𝓤 H A record-next.signature (κ′, tt) (q′, tt) vh passed) (NextRecord 𝓤 H A at-mem run .pre to-record)
@@ -149,21 +149,21 @@ module _ {M : Type 1} (𝓤 : URA M) (H : Heap 𝓤) (A : Atoms 𝓤) (W : Given
       move ! (2 ∷ 0 ∷ []) $ use2 W (raw (NextRecord 𝓤 H A at-mem run .pre to-record)) asked $ frame ! $ done !)
 
   -- what `place_after` asks is facts alone
-  asked-on : (r : Stepped) (u : Val) → ent 𝓤 (onEntry 𝓤 H A after.signature tt tt (r, (h .place, tt)) (passed-on u)) (PlaceAfter 𝓤 H A at-mem run .pre (to-after r u))
+  asked-on : (r : NextRecordAnswer) (u : Val) → ent 𝓤 (onEntry 𝓤 H A after.signature tt tt (r, (h .place, tt)) (passed-on u)) (PlaceAfter 𝓤 H A at-mem run .pre (to-after r u))
   asked-on r u = qed W (‵ ftrue ∷ ‵ (owns (S.the-row ∷ u32 ∷ []) (r, (h .place, tt)) (passed-on u)) ∷ []) ∵ join ! $ frame ! $ done !
 
   -- of a callee's `ensured`, the clause alone: none has a `&mut`, so what is said of last values is dropped
-  said : (r : Stepped) → ent 𝓤 (ensured 𝓤 H A record-next.ended (record-next.clauses 𝓤 H A at-mem run) (κ′, tt) vh tt r) (fact 𝓤 (r ≡ found))
+  said : (r : NextRecordAnswer) → ent 𝓤 (ensured 𝓤 H A record-next.ended (record-next.clauses 𝓤 H A at-mem run) (κ′, tt) vh tt r) (fact 𝓤 (r ≡ found))
   said r = exE 𝓤 _ (λ ws. snd∗ 𝓤 (sem 𝓤 H A (lasts record-next.ended (κ′, tt) vh ws)) (fact 𝓤 (r ≡ found)))
 
-  said-on : (r : Stepped) (p : ℕ) → ent 𝓤 (ensured 𝓤 H A after.ended (after.clauses 𝓤 H A at-mem run) tt (r, (h .place, tt)) tt p) (fact 𝓤 (p ≡ placeAfter r (h .place)))
+  said-on : (r : NextRecordAnswer) (p : ℕ) → ent 𝓤 (ensured 𝓤 H A after.ended (after.clauses 𝓤 H A at-mem run) tt (r, (h .place, tt)) tt p) (fact 𝓤 (p ≡ placeAfter r (h .place)))
   said-on r p = exE 𝓤 _ (λ ws. snd∗ 𝓤 (sem 𝓤 H A (lasts after.ended tt (r, (h .place, tt)) ws)) (fact 𝓤 (p ≡ placeAfter r (h .place))))
 
   -- what image and id own is kept, and place's facts are made anew
   again : (p : ℕ) → p < 2 ^ 32 → ent 𝓤 (sem 𝓤 H A Own) (sem 𝓤 H A (B κ′ .own (h′ p) (T′.lowered (h′ p) ∷ [])))
   again p fits = qed W (‵ Own ∷ []) ∵ owned ! u32 (Is u32) (uint-makes 𝓤 H A W w32) p _ (refl, fits) $ move ! (1 ∷ 0 ∷ []) $ by ! (own-put 𝓤 H A W D L 2 vh p (T′.lowered h))
 
-  exits : (r : Stepped) (u : Val) (p : ℕ) → r ≡ found → p ≡ placeAfter r (h .place)
+  exits : (r : NextRecordAnswer) (u : Val) (p : ℕ) → r ≡ found → p ≡ placeAfter r (h .place)
       → ent 𝓤 (⋆ 𝓤 H A (‵ (fobs γ (B κ′ .coded .code (h′ p))) ∷ ‵ (fbor κ (Body (mem (B κ′)) b o γ)) ∷ ‵ (flft κ q) ∷ (‵ (flft κ′ q′) ⊛ ‵ ftrue) ∷ ‵ (S.the-row .own r (u ∷ [])) ∷ [])) (Post u)
   exits r u p e goes =
       qed W (‵ (fobs γ (B κ′ .coded .code (h′ p))) ∷ ‵ (fbor κ (Body (mem (B κ′)) b o γ)) ∷ ‵ (flft κ q) ∷ (‵ (flft κ′ q′) ⊛ ‵ ftrue) ∷ ‵ (S.the-row .own r (u ∷ [])) ∷ []) ∵
@@ -186,7 +186,7 @@ module _ {M : Type 1} (𝓤 : URA M) (H : Heap 𝓤) (A : Atoms 𝓤) (W : Given
         assigns ! (of-opd ! (load ! (from ! (hop ! (look ! 17 refl) (fld ! {τ = tyInt w32} {d = 24} refl (stop !)))) (look-in ! 0 (sub ! 2 {τ = tyInt w32} {d = 24} refl (whole !))))) (from ! (stop !)) (init ! 9 refl (tt, wt .1 .1 .0)) $
         move ! (5 ∷ 1 ∷ []) $ use2 W (raw (NextRecord 𝓤 H A at-mem run .pre to-record) ⊛ ‵ Own) apart $ split ! $
         calls-at ! fm (NextRecord 𝓤 H A at-mem run) known to-record (and-then ! (load ! (from ! (stop !)) (look ! 13 refl)) (and-then ! (load ! (from ! (stop !)) (look ! 11 refl)) (and-then ! (load ! (from ! (stop !)) (look ! 9 refl)) (no-more !)))) (λ u.
-        use1 W (later (some (λ (r : Stepped). ((‵ (flft κ′ q′) ⊛ ‵ ftrue) ⊛ ‵ (S.the-row .own r (u ∷ []))) ⊛ raw (ensured 𝓤 H A record-next.ended (record-next.clauses 𝓤 H A at-mem run) (κ′, tt) vh tt r)))) (id⊢ 𝓤 _) $ await ! tt $ pick ! (λ r.
+        use1 W (later (some (λ (r : NextRecordAnswer). ((‵ (flft κ′ q′) ⊛ ‵ ftrue) ⊛ ‵ (S.the-row .own r (u ∷ []))) ⊛ raw (ensured 𝓤 H A record-next.ended (record-next.clauses 𝓤 H A at-mem run) (κ′, tt) vh tt r)))) (id⊢ 𝓤 _) $ await ! tt $ pick ! (λ r.
         split ! $ move ! (1 ∷ []) $ use1 W (raw (fact 𝓤 (r ≡ found))) (said r) $ heard ! (r ≡ found) (λ e. split ! $ move ! (1 ∷ []) $
         -- [the answer; 'a's token; what a Walker owns; the struct's cell; the open borrow; obs; auth; true; _6; …; _5; …; _4; …; _3; …; _2; …; _1; …; room for _0; …]
         peeks ! S.the-row (Is S.the-row) (shows 𝓤 H A S.the-row) r (u ∷ []) (λ is. let ut = EL.lawful S.the-type S′.the-laws 𝓤 H A W tt .typed r _ is .0 in

@@ -44,10 +44,10 @@ use Rattle.walker.proofs.Walker as T
 use Rattle.walker.proofs.opening as opening
 use Rattle.answer.proofs.types.FileId as F
 use Rattle.answer.proofs.types.FileId.Laws as F′
-use Rattle.open_file.specs.Opening.{openAnswer}
-use Rattle.open_file.specs.declared.OpenedFile.{OpenedFile}
-use Rattle.open_file.proofs.OpenedFile as S
-use Rattle.open_file.proofs.OpenedFile.Laws as S′
+use Rattle.open_file.specs.Opening.{openFileAnswer}
+use Rattle.answer.specs.declared.answers.CountAnswer.{CountAnswer}
+use Rattle.answer.proofs.answers.CountAnswer as S
+use Rattle.answer.proofs.answers.CountAnswer.Laws as S′
 use Rattle.open_file.proofs.open_file as open-file
 use Rattle.open_file.proofs.open_file.Symbol as open-file-def
 use Rattle.open_file.proofs.open_file.Symbol.{name as #open-file}
@@ -74,8 +74,8 @@ module _ {M : Type 1} (𝓤 : URA M) (H : Heap 𝓤) (A : Atoms 𝓤) (W : Given
   abbrev mach : Val
   mach = T′.lowered d
 
-  abbrev found : OpenedFile
-  found = openAnswer (now (d .image)) (d .id)
+  abbrev found : CountAnswer
+  found = openFileAnswer (now (d .image)) (d .id)
 
   abbrev Post : Val → SProp 𝓤
   Post = walkOf 𝓤 H A opening.ended stayed (opening.clauses 𝓤 H A mem run) .post (((κ, tt), (q, tt), tt, (d, tt), (mach ∷ [], tt)), tt)
@@ -114,10 +114,10 @@ module _ {M : Type 1} (𝓤 : URA M) (H : Heap 𝓤) (A : Atoms 𝓤) (W : Given
       move ! (2 ∷ 0 ∷ []) $ use2 W (raw (OpenFile 𝓤 H A mem run .pre to)) asked $ frame ! $ done !)
 
   -- of the callee's `ensured`, the clause alone: it has no `&mut`, so what is said of last values is dropped
-  said : (r : OpenedFile) → ent 𝓤 (ensured 𝓤 H A open-file.ended (open-file.clauses 𝓤 H A mem run) (κ, tt) (d .image, (d .id, tt)) tt r) (fact 𝓤 (r ≡ found))
+  said : (r : CountAnswer) → ent 𝓤 (ensured 𝓤 H A open-file.ended (open-file.clauses 𝓤 H A mem run) (κ, tt) (d .image, (d .id, tt)) tt r) (fact 𝓤 (r ≡ found))
   said r = exE 𝓤 _ (λ ws. snd∗ 𝓤 (sem 𝓤 H A (lasts open-file.ended (κ, tt) (d .image, (d .id, tt)) ws)) (fact 𝓤 (r ≡ found)))
 
-  exits : (r : OpenedFile) (u : Val) → r ≡ found → ent 𝓤 (⋆ 𝓤 H A (‵ (S.the-row .own r (u ∷ [])) ∷ (‵ (flft κ q) ⊛ ‵ ftrue) ∷ ‵ Own ∷ [])) (Post u)
+  exits : (r : CountAnswer) (u : Val) → r ≡ found → ent 𝓤 (⋆ 𝓤 H A (‵ (S.the-row .own r (u ∷ [])) ∷ (‵ (flft κ q) ⊛ ‵ ftrue) ∷ ‵ Own ∷ [])) (Post u)
   exits r u e =
       qed W (‵ (S.the-row .own r (u ∷ [])) ∷ (‵ (flft κ q) ⊛ ‵ ftrue) ∷ ‵ Own ∷ []) ∵
       suffices ! _ (ends-at 𝓤 H A opening.ended stayed (opening.clauses 𝓤 H A mem run) W (((κ, tt), (q, tt), tt, (d, tt), (mach ∷ [], tt)), tt) u r (tt, tt) (tt, tt)) $ says ! e $
@@ -132,7 +132,7 @@ module _ {M : Type 1} (𝓤 : URA M) (H : Heap 𝓤) (A : Atoms 𝓤) (W : Given
         assigns ! (of-opd ! (load ! (from ! (fld ! refl (stop !))) (look-in ! 4 (sub ! 1 refl (whole !))))) (from ! (stop !)) (init ! 0 refl (tt, wt .1 .1 .0)) $
         move ! (8 ∷ []) $ use1 W (raw (OpenFile 𝓤 H A mem run .pre to) ⊛ ‵ Own) apart $ split ! $
         calls-at ! fm (OpenFile 𝓤 H A mem run) known to (and-then ! (load ! (from ! (stop !)) (look ! 4 refl)) (and-then ! (load ! (from ! (stop !)) (look ! 2 refl)) (no-more !))) (λ u.
-        use1 W (later (some (λ (r : OpenedFile). ((‵ (flft κ q) ⊛ ‵ ftrue) ⊛ ‵ (S.the-row .own r (u ∷ []))) ⊛ raw (ensured 𝓤 H A open-file.ended (open-file.clauses 𝓤 H A mem run) (κ, tt) (d .image, (d .id, tt)) tt r)))) (id⊢ 𝓤 _) $ await ! tt $ pick ! (λ r.
+        use1 W (later (some (λ (r : CountAnswer). ((‵ (flft κ q) ⊛ ‵ ftrue) ⊛ ‵ (S.the-row .own r (u ∷ []))) ⊛ raw (ensured 𝓤 H A open-file.ended (open-file.clauses 𝓤 H A mem run) (κ, tt) (d .image, (d .id, tt)) tt r)))) (id⊢ 𝓤 _) $ await ! tt $ pick ! (λ r.
         split ! $ move ! (1 ∷ []) $ use1 W (raw (fact 𝓤 (r ≡ found))) (said r) $ heard ! (r ≡ found) (λ e. split ! $ move ! (1 ∷ []) $
         -- [the result; the token; what the struct owns; _3; …; _2; …; _1; …; room for _0; …]
         peeks ! S.the-row (Is S.the-row) (shows 𝓤 H A S.the-row) r (u ∷ []) (λ is.

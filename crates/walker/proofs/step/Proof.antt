@@ -44,10 +44,10 @@ use Rattle.walker.proofs.Walker as T
 use Rattle.walker.proofs.step as step
 use Rattle.answer.proofs.types.FileId as F
 use Rattle.answer.proofs.types.FileId.Laws as F′
-use Rattle.look_up.specs.LookUp.{nextRecord}
-use Rattle.look_up.specs.declared.Stepped.{Stepped}
-use Rattle.look_up.proofs.Stepped as S
-use Rattle.look_up.proofs.Stepped.Laws as S′
+use Rattle.look_up.specs.LookUp.{nextRecordAnswer}
+use Rattle.look_up.specs.declared.NextRecordAnswer.{NextRecordAnswer}
+use Rattle.look_up.proofs.NextRecordAnswer as S
+use Rattle.look_up.proofs.NextRecordAnswer.Laws as S′
 use Rattle.look_up.proofs.next_record as record-next
 use Rattle.look_up.proofs.next_record.Symbol as record-def
 use Rattle.look_up.proofs.next_record.Symbol.{name as #next-record}
@@ -74,8 +74,8 @@ module _ {M : Type 1} (𝓤 : URA M) (H : Heap 𝓤) (A : Atoms 𝓤) (W : Given
   abbrev mach : Val
   mach = T′.lowered d
 
-  abbrev found : Stepped
-  found = nextRecord (now (d .image)) (d .id) (d .place)
+  abbrev found : NextRecordAnswer
+  found = nextRecordAnswer (now (d .image)) (d .id) (d .place)
 
   abbrev Post : Val → SProp 𝓤
   Post = walkOf 𝓤 H A step.ended stayed (step.clauses 𝓤 H A mem run) .post (((κ, tt), (q, tt), tt, (d, tt), (mach ∷ [], tt)), tt)
@@ -113,10 +113,10 @@ module _ {M : Type 1} (𝓤 : URA M) (H : Heap 𝓤) (A : Atoms 𝓤) (W : Given
       move ! (2 ∷ 0 ∷ []) $ use2 W (raw (NextRecord 𝓤 H A mem run .pre to)) asked $ frame ! $ done !)
 
   -- of the callee's `ensured`, the clause alone: it has no `&mut`, so what is said of last values is dropped
-  said : (r : Stepped) → ent 𝓤 (ensured 𝓤 H A record-next.ended (record-next.clauses 𝓤 H A mem run) (κ, tt) (d .image, (d .id, (d .place, tt))) tt r) (fact 𝓤 (r ≡ found))
+  said : (r : NextRecordAnswer) → ent 𝓤 (ensured 𝓤 H A record-next.ended (record-next.clauses 𝓤 H A mem run) (κ, tt) (d .image, (d .id, (d .place, tt))) tt r) (fact 𝓤 (r ≡ found))
   said r = exE 𝓤 _ (λ ws. snd∗ 𝓤 (sem 𝓤 H A (lasts record-next.ended (κ, tt) (d .image, (d .id, (d .place, tt))) ws)) (fact 𝓤 (r ≡ found)))
 
-  exits : (r : Stepped) (u : Val) → r ≡ found → ent 𝓤 (⋆ 𝓤 H A (‵ (S.the-row .own r (u ∷ [])) ∷ (‵ (flft κ q) ⊛ ‵ ftrue) ∷ ‵ Own ∷ [])) (Post u)
+  exits : (r : NextRecordAnswer) (u : Val) → r ≡ found → ent 𝓤 (⋆ 𝓤 H A (‵ (S.the-row .own r (u ∷ [])) ∷ (‵ (flft κ q) ⊛ ‵ ftrue) ∷ ‵ Own ∷ [])) (Post u)
   exits r u e =
       qed W (‵ (S.the-row .own r (u ∷ [])) ∷ (‵ (flft κ q) ⊛ ‵ ftrue) ∷ ‵ Own ∷ []) ∵
       suffices ! _ (ends-at 𝓤 H A step.ended stayed (step.clauses 𝓤 H A mem run) W (((κ, tt), (q, tt), tt, (d, tt), (mach ∷ [], tt)), tt) u r (tt, tt) (tt, tt)) $ says ! e $
@@ -132,7 +132,7 @@ module _ {M : Type 1} (𝓤 : URA M) (H : Heap 𝓤) (A : Atoms 𝓤) (W : Given
         assigns ! (of-opd ! (load ! (from ! (fld ! refl (stop !))) (look-in ! 6 (sub ! 2 refl (whole !))))) (from ! (stop !)) (init ! 0 refl (tt, wt .1 .1 .1 .0)) $
         move ! (10 ∷ []) $ use1 W (raw (NextRecord 𝓤 H A mem run .pre to) ⊛ ‵ Own) apart $ split ! $
         calls-at ! fm (NextRecord 𝓤 H A mem run) known to (and-then ! (load ! (from ! (stop !)) (look ! 6 refl)) (and-then ! (load ! (from ! (stop !)) (look ! 4 refl)) (and-then ! (load ! (from ! (stop !)) (look ! 2 refl)) (no-more !)))) (λ u.
-        use1 W (later (some (λ (r : Stepped). ((‵ (flft κ q) ⊛ ‵ ftrue) ⊛ ‵ (S.the-row .own r (u ∷ []))) ⊛ raw (ensured 𝓤 H A record-next.ended (record-next.clauses 𝓤 H A mem run) (κ, tt) (d .image, (d .id, (d .place, tt))) tt r)))) (id⊢ 𝓤 _) $ await ! tt $ pick ! (λ r.
+        use1 W (later (some (λ (r : NextRecordAnswer). ((‵ (flft κ q) ⊛ ‵ ftrue) ⊛ ‵ (S.the-row .own r (u ∷ []))) ⊛ raw (ensured 𝓤 H A record-next.ended (record-next.clauses 𝓤 H A mem run) (κ, tt) (d .image, (d .id, (d .place, tt))) tt r)))) (id⊢ 𝓤 _) $ await ! tt $ pick ! (λ r.
         split ! $ move ! (1 ∷ []) $ use1 W (raw (fact 𝓤 (r ≡ found))) (said r) $ heard ! (r ≡ found) (λ e. split ! $ move ! (1 ∷ []) $
         -- [the result; the token; what the struct owns; _4; …; _3; …; _2; …; _1; …; room for _0; …]
         peeks ! S.the-row (Is S.the-row) (shows 𝓤 H A S.the-row) r (u ∷ []) (λ is.

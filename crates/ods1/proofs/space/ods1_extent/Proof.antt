@@ -1,12 +1,12 @@
 -- The words of what the call answered.
 use borrow.Author.Needs.{needs}
 use mathlib.Core.Path.{ap, _∙_}
-use Rattle.file_words.specs.Words.{extentWords}
+use Rattle.answer_words.specs.Words.{runWords}
 use Rattle.ods1.proofs.space.ods1_extent.Statement.{statement}
 use Rattle.ods1.proofs.space.ods1_extent.Tie as tie
 
 returns : tie.Need-returns
-returns c = c .put-extent .ensures ∙ ap extentWords (c .before .before .extent-from .ensures)
+returns c = c .put-run .ensures ∙ ap runWords (c .before .before .extent .ensures)
 
 pub ods1-extent-spec : {M : Type 1} → statement M
 ods1-extent-spec = tie.close (tie.spec (search needs) (search needs) returns)

@@ -1,0 +1,57 @@
+// What a volume says of itself, as types: where its parts lie, and its label.
+use answer::refusal::Refusal;
+
+// Where the parts of a volume lie.
+pub struct Geometry {
+    // N, the number of blocks.
+    pub blocks: u32,
+    // The LBN of the home.
+    pub home: u32,
+    // H.IBSZ.
+    pub ibsz: u32,
+    // H.IBLB.
+    pub iblb: u32,
+    // H.FMAX.
+    pub fmax: u32,
+    // How many file numbers have a slot.
+    pub slots: u32,
+    // The LBN of the storage map's bits.
+    pub map: u32,
+    // In how many blocks they lie.
+    pub map_blocks: u32,
+    // H.VLEV.
+    pub vlev: u16,
+    // How many headers the index file has.
+    pub index_headers: u32,
+}
+
+// The answer of asking where the parts of a volume lie.
+pub enum GeometryAnswer {
+    Done(Geometry),
+    Refused(Refusal),
+}
+
+// The label in a volume's home block.
+pub struct Label {
+    // H.VNAM, as six words.
+    pub name1: u16,
+    pub name2: u16,
+    pub name3: u16,
+    pub name4: u16,
+    pub name5: u16,
+    pub name6: u16,
+    // H.VOWN.
+    pub owner: u16,
+    // H.VPRO.
+    pub protection: u16,
+    // H.VCHA.
+    pub characteristics: u16,
+    // H.DFPR.
+    pub default_protection: u16,
+}
+
+// The answer of asking for a volume's label.
+pub enum LabelAnswer {
+    Done(Label),
+    Refused(Refusal),
+}
