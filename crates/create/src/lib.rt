@@ -59,9 +59,11 @@ fn put_file(
 {
     let lbn = slot_at(image, v, places, n);
     let word = h_fseq(block(image, lbn));
+    let number = n.0 as u16;
+    let sequence = word + 1;
     let id = FileId {
-        number: n.0 as u16,
-        sequence: word + 1,
+        number,
+        sequence,
         volume: 0,
     };
     put_header(image, lbn, id, owner, protection, name);

@@ -52,7 +52,7 @@ module _ (image : List ℕ) (n : ℕ) (d : Deleting image n) (v : Volume) (e : v
   laid : Laid image v
   laid = says image v e
 
-  based : v .base ≡ base image
+  based : v .base .0 ≡ base image
   based = says-base image v e
 
   abbrev member : ℕ → ℕ
@@ -84,7 +84,7 @@ module _ (image : List ℕ) (n : ℕ) (d : Deleting image n) (v : Volume) (e : v
   slots-long = omega (arith, length-take (m .count) (m .slots), ap length (l .slots), slotsOf-length image (chainOf image n), l .long)
 
   -- The index bits may be cleared.
-  pub index-inside : 512 * (v .iblb + v .ibsz) ≤ length image
+  pub index-inside : 512 * (v .iblb .0 + v .ibsz) ≤ length image
   index-inside = rw (laid .iblb, laid .ibsz) (index-fits g)
 
   pub index-numbers : HaveBits (v .ibsz) (m .count) (m .numbers)
@@ -96,7 +96,7 @@ module _ (image : List ℕ) (n : ℕ) (d : Deleting image n) (v : Volume) (e : v
   }
 
   -- The image a after that.
-  module _ (a : List ℕ) (q : ℕ) (is : a ≡ putMapBits image (v .iblb) (v .ibsz) (indexBits (take (m .count) (m .numbers))) 0) (qe : q ≡ mapBlocks (v .blocks)) where
+  module _ (a : List ℕ) (q : ℕ) (is : a ≡ putMapBits image (v .iblb .0) (v .ibsz) (indexBits (take (m .count) (m .numbers))) 0) (qe : q ≡ mapBlocks (v .blocks)) where
     a-is : a ≡ putMapBits image (iblb image) (ibsz image) (indexBits (chainOf image n)) 0
     a-is = is ∙ rw (laid .iblb, laid .ibsz, l .numbers)
 
@@ -111,7 +111,7 @@ module _ (image : List ℕ) (n : ℕ) (d : Deleting image n) (v : Volume) (e : v
     same k low high = ap (λ (b : List ℕ). block b (slot image k)) a-is ∙ header-index g (indexBits (chainOf image n)) 0 k low high
 
     -- The blocks of the headers may be freed.
-    pub storage-inside : 512 * (v .base + q) ≤ length a
+    pub storage-inside : 512 * (v .base .0 + q) ≤ length a
     storage-inside = rw (based, q-is) (omega (arith, a-length, storage-fits g))
 
     freeable : (k : ℕ) → inUse image k ≡ true → 1 ≤ k → k ≤ slots image → Freeable a (base image) (mapBlocks (blocks image)) (slot image k)
@@ -122,16 +122,16 @@ module _ (image : List ℕ) (n : ℕ) (d : Deleting image n) (v : Volume) (e : v
       ends = rw (same k low high) (whole-ends k (4096 * mapBlocks (blocks image)) (header image k) (blocks image) (g .safe .whole k u) (omega arith));
     }
 
-    pub storage-headers : AllFreeable a (v .base) q (m .count) (m .slots)
+    pub storage-headers : AllFreeable a (v .base .0) q (m .count) (m .slots)
     storage-headers = record {
       long = slots-long;
       each = λ i h. rw (based, q-is, slot-at i h) (freeable (member i) (used i h) (has i h .0) (has i h .1));
     }
 
     -- The image b after that.
-    module _ (b : List ℕ) (is′ : b ≡ putMapBits a (v .base) q (flat (block a) (take (m .count) (m .slots))) 1) where
+    module _ (b : List ℕ) (is′ : b ≡ putMapBits a (v .base .0) q (flat (block a) (take (m .count) (m .slots))) 1) where
       b-length : length b ≡ length image
-      b-length = put-length a (v .base) q storage-inside (flat (block a) (take (m .count) (m .slots))) 1 b is′ ∙ a-length
+      b-length = put-length a (v .base .0) q storage-inside (flat (block a) (take (m .count) (m .slots))) 1 b is′ ∙ a-length
 
       -- The slots may be cleared.
       pub slots-inside : AllInside b (m .count) (m .slots)

@@ -27,7 +27,7 @@ returns c =
 
 returns-2 : tie.Need-returns-2
 returns-2 c =
-    let f = c .before .before in
+    let f = c .before .before .before in
     let e = f .before .before in
     let s = e .before .before .before in
     let a = s .args in
@@ -36,14 +36,14 @@ returns-2 c =
 
 put-file-requires : tie.Need-put-file-requires
 put-file-requires c κs =
-    let f = c .before .before .before in
+    let f = c .before .before .before .before in
     (f .before .before .before .before .before .pre, f .spare-number .ensures, omega arith)
 
 returns-3 : tie.Need-returns-3
 unfolding idAnswer afterwards
 returns-3 c =
     let p = c .before .before in
-    let f = p .before .before .before .before in
+    let f = p .before .before .before .before .before in
     let e = f .before .before in
     let s = e .before .before .before in
     let a = s .args in

@@ -23,7 +23,7 @@ module _ (k : tie.After-slice-known) where
   image = now (k .before .args .image)
 
   abbrev n : ℕ
-  n = k .before .args .n
+  n = k .before .args .n .0
 
   laid : Laid image (k .before .args .v)
   laid = says image (k .before .args .v) (k .before .pre .0 .1)
@@ -52,25 +52,25 @@ slot-at-requires : tie.Need-slot-at-requires
 unfolding hasSlot
 slot-at-requires c κs = (c .before .before .pre .0, le-leb (n (c .before)) (slots (image (c .before))) (spare (c .before) .has))
 
-cast-t17 : tie.Need-cast-t17
-cast-t17 c = omega (arith, most (k c))
+cast-number : tie.Need-cast-number
+cast-number c = omega (arith, most (k (c .before)))
 
-add-t18 : tie.Need-add-t18
-add-t18 c = omega (arith, word c, spare (k c) .word)
+add-sequence : tie.Need-add-sequence
+add-sequence c = omega (arith, word (c .before), spare (k (c .before)) .word)
 
 put-header-requires : tie.Need-put-header-requires
 put-header-requires c κs =
-    let h = c .before in
+    let h = c .before .before in
     omega (arith, lbn h, slot-below (opened (k h)) (n (k h)) (omega (arith, spare (k h) .low)) (spare (k h) .has), opened (k h) .size)
 
 sub-put-map-bit : tie.Need-sub-put-map-bit
-sub-put-map-bit c = omega (arith, spare (k (c .before .before .before .before .before)) .low)
+sub-put-map-bit c = omega (arith, spare (k (c .before .before .before .before .before .before .before)) .low)
 
 put-map-bit-requires : tie.Need-put-map-bit-requires
 unfolding mapBlocks
 put-map-bit-requires c κs =
-    let p = c .before .before .before in
-    let q = k (p .before .before) in
+    let p = c .before .before .before .before in
+    let q = k (p .before .before .before) in
     let v = laid q in (
       omega (arith, p .put-header .kept .0, v .iblb, v .ibsz, opened q .fits, opened q .size),
       omega (arith, spare q .low, most q, v .ibsz, opened q .maps),
@@ -81,8 +81,8 @@ returns : tie.Need-returns
 unfolding newId newSequence withFile withNumber indexBit
 returns c =
     let f = c .before .before in
-    let p = f .before .before .before .before in
-    let h = p .before .before in
+    let p = f .before .before .before .before .before in
+    let h = p .before .before .before in
     let e = k h .before .pre .1 in
     let v = laid (k h) in
     (rw (word h, ← e), rw (f .put-map-bit .ensures, p .put-header .ensures, ← e, ← lbn h, ← word h, ← v .iblb, ← v .ibsz))
@@ -90,4 +90,4 @@ returns c =
 pub put-file-spec : {M : Type 1} → statement M
 put-file-spec =
     tie.close
-    (tie.spec slot-at-requires (search needs) (search needs) cast-t17 add-t18 put-header-requires sub-put-map-bit put-map-bit-requires (search needs) returns)
+    (tie.spec slot-at-requires (search needs) (search needs) cast-number add-sequence put-header-requires sub-put-map-bit put-map-bit-requires (search needs) returns)

@@ -11,8 +11,8 @@ use Rattle.delete_steps.proofs.clear_at.Tie as tie
 returns : tie.Need-returns
 returns c =
     let f = c .before .before .clear-slot in
-    let a = c .before .before .before .before .before .args in
+    let a = c .before .before .before .before .before .before .args in
     part-block (now (a .image)) (a .lbn .0) (512 * a .lbn .0 + 512 - 512 * a .lbn .0) clearedSlot _ (omega arith) (omega arith) (f .kept .0) (f .ensures)
 
 pub clear-at-spec : {M : Type 1} → statement M
-clear-at-spec = tie.close (tie.spec (search needs) (search needs) (search needs) (search needs) (search needs) (search needs) (search needs) returns)
+clear-at-spec = tie.close (tie.spec (search needs) (search needs) (search needs) (search needs) (search needs) (search needs) (search needs) (search needs) returns)

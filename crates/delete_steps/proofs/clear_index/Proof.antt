@@ -12,10 +12,10 @@ use Rattle.delete_steps.proofs.clear_index.Statement.{statement}
 use Rattle.delete_steps.proofs.clear_index.Tie as tie
 
 abbrev Inv-loop : tie.InvT-loop
-Inv-loop image₀ k q count numbers i₀ image i = (i ≤ count) × (length image ≡ length image₀) × (image ≡ putMapBits image₀ k q (indexBits (take i numbers)) 0)
+Inv-loop image₀ map q count numbers i₀ image i = (i ≤ count) × (length image ≡ length image₀) × (image ≡ putMapBits image₀ (map .0) q (indexBits (take i numbers)) 0)
 
 abbrev μ-loop : tie.MeasureT-loop
-μ-loop image₀ k q count numbers i₀ image i = count - i
+μ-loop image₀ map q count numbers i₀ image i = count - i
 
 loop-holds : tie.Need-loop-holds Inv-loop μ-loop
 loop-holds c =

@@ -15,10 +15,10 @@ use Rattle.delete_steps.proofs.free_header.Statement.{statement}
 use Rattle.delete_steps.proofs.free_header.Tie as tie
 
 abbrev Inv-loop : tie.InvT-loop
-Inv-loop image₀ k q lbn at number p₀ image p = (p ≤ number) × (length image ≡ length image₀) × (image ≡ putMapBits image₀ k q (runs (block image₀ lbn) at p) 1)
+Inv-loop image₀ map q lbn at number p₀ image p = (p ≤ number) × (length image ≡ length image₀) × (image ≡ putMapBits image₀ (map .0) q (runs (block image₀ (lbn .0)) at p) 1)
 
 abbrev μ-loop : tie.MeasureT-loop
-μ-loop image₀ k q lbn at number p₀ image p = number - p
+μ-loop image₀ map q lbn at number p₀ image p = number - p
 
 -- The header as it was, and where its pointers are.
 module _ (c : tie.At-loop Inv-loop μ-loop) where

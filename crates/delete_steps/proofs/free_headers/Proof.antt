@@ -15,10 +15,10 @@ use Rattle.delete_steps.proofs.free_headers.Statement.{statement}
 use Rattle.delete_steps.proofs.free_headers.Tie as tie
 
 abbrev Inv-loop : tie.InvT-loop
-Inv-loop image₀ k q count slots i₀ image i = (i ≤ count) × (length image ≡ length image₀) × (image ≡ putMapBits image₀ k q (flat (block image₀) (take i slots)) 1)
+Inv-loop image₀ map q count slots i₀ image i = (i ≤ count) × (length image ≡ length image₀) × (image ≡ putMapBits image₀ (map .0) q (flat (block image₀) (take i slots)) 1)
 
 abbrev μ-loop : tie.MeasureT-loop
-μ-loop image₀ k q count slots i₀ image i = count - i
+μ-loop image₀ map q count slots i₀ image i = count - i
 
 loop-holds : tie.Need-loop-holds Inv-loop μ-loop
 loop-holds c =

@@ -17,7 +17,7 @@ module _ (c : tie.After-pointer-count) where
   abbrev h : List ℕ
   h = block (now (start .args .image)) (start .args .lbn .0)
 
-  lbn : c .before .pointer-lbn .result ≡ pointerLbn h (start .args .at)
+  lbn : c .before .pointer-lbn .result .0 ≡ pointerLbn h (start .args .at)
   lbn = c .before .pointer-lbn .ensures .0 ∙ ap (λ (b : List ℕ). pointerLbn b (start .args .at)) (c .before .before .block .ensures)
 
   count : c .pointer-count .result ≡ pointerCount h (start .args .at)

@@ -25,7 +25,7 @@ returns c =
     let f = c .before .before .add-pointer in
     let a = c .before .before .before .before .before .before .args in
     let at = 512 * a .last .0 in
-    part-block (now (a .image)) (a .last .0) (at + 512 - at) (λ (h : List ℕ). extendedHeader h (a .s) (a .c)) _ (omega arith) (omega arith) (f .kept .0) (f .ensures)
+    part-block (now (a .image)) (a .last .0) (at + 512 - at) (λ (h : List ℕ). extendedHeader h (a .lbn .0) (a .c)) _ (omega arith) (omega arith) (f .kept .0) (f .ensures)
 
 pub point-to-spec : {M : Type 1} → statement M
 point-to-spec =

@@ -21,7 +21,7 @@ module _ (c : tie.After-map-blocks) where
   opened : Opens image
   opened = opens image (start .pre .0 .0)
 
-  place : start .args .v .base ≡ base image
+  place : start .args .v .base .0 ≡ base image
   place = says-base image (start .args .v) (start .pre .0 .1)
 
   many : c .map-blocks .result ≡ mapBlocks (blocks image)
