@@ -10,7 +10,6 @@ use lib.Seq.{take-length}
 use Rattle.answer.specs.declared.outcome.Outcome.the-variants.{Passed}
 use Rattle.header.specs.Fields.{mEfnu}
 use Rattle.pointers.specs.Pointers.{blocksOf}
-use Rattle.home.specs.Home.{blocks}
 use Rattle.volume.specs.Volume.{slots, hasSlot, header, inUse, isNumber}
 use Rattle.volume.specs.Opening.{openVolume}
 use Rattle.chains.specs.Chains.{NextHeader, IsFirst, fileBlocks}

@@ -15,7 +15,7 @@ ghost use Prim.Native.Nat.{_*_, _≤_};
 ghost use lib.ListN.{length};
 ghost use Rattle.answer.specs.declared.outcome.Outcome.the-variants.{Passed};
 ghost use Rattle.lists.specs.First.{first};
-ghost use Rattle.home.specs.Home.{blocks, homeIndex};
+ghost use Rattle.home.specs.Home.{blocks};
 ghost use Rattle.volume.specs.Opening.{Recorded};
 ghost use Rattle.chains.specs.Chains.{fileBlocks};
 ghost use Rattle.marks.specs.Marks.{tallied, raisedBy};

@@ -12,7 +12,7 @@ use lib.Seq.{getD-append-add, take-append-seam, take-append-add}
 use Rattle.header.specs.Fields.{segment, mEfnu}
 use Rattle.pointers.specs.Pointers.{blocksOf}
 use Rattle.volume.specs.Volume.{header, faultOf, isNumber}
-use Rattle.chains.specs.Chains.{goodLink, NextHeader, chain, chainOf, linkOf, goodChain, IsFirst, fileBlocks, chainBlocks}
+use Rattle.chains.specs.Chains.{goodLink, NextHeader, chain, chainOf, goodLinkOf, goodChain, IsFirst, fileBlocks, chainBlocks}
 use Rattle.pointers.specs.Pointers.{flat}
 use Rattle.lists.specs.Lists.{every}
 use Rattle.chains.specs.declared.Chain.{Chain}
@@ -68,7 +68,7 @@ pub record Walk (image : List ℕ) (n : ℕ) (h : List ℕ) (d : ℕ) : Type 0 w
   pub used : isNumber image number ≡ true
   pub whole : faultOf image number ≡ 0
   pub low : segment h ≤ 255
-  pub links : goodChain image n ≡ every (linkOf image) (chain (header image) (256 - segment h) number)
+  pub links : goodChain image n ≡ every (goodLinkOf image) (chain (header image) (256 - segment h) number)
   pub past : List ℕ
   pub count : length past ≡ d
   pub blocks : fileBlocks image n ≡ past ++ flat (header image) (chain (header image) (256 - segment h) number)
@@ -96,14 +96,14 @@ module _ (image : List ℕ) (n : ℕ) (h : List ℕ) (d : ℕ) (w : Walk image n
   some : 256 - segment h ≡ 255 - segment h + 1
   some = omega (arith, w .low)
 
-  left-links : goodChain image n ≡ every (linkOf image) (chain (header image) (255 - segment h + 1) (w .number))
-  left-links = w .links ∙ ap (λ (f : ℕ). every (linkOf image) (chain (header image) f (w .number))) some
+  left-links : goodChain image n ≡ every (goodLinkOf image) (chain (header image) (255 - segment h + 1) (w .number))
+  left-links = w .links ∙ ap (λ (f : ℕ). every (goodLinkOf image) (chain (header image) f (w .number))) some
 
   left-blocks : fileBlocks image n ≡ w .past ++ flat (header image) (chain (header image) (255 - segment h + 1) (w .number))
   left-blocks = w .blocks ∙ ap (λ (f : ℕ). w .past ++ flat (header image) (chain (header image) f (w .number))) some
 
-  link-here : linkOf image (w .number) ≡ goodLink image h
-  unfolding linkOf
+  link-here : goodLinkOf image (w .number) ≡ goodLink image h
+  unfolding goodLinkOf
   link-here = ap (goodLink image) (w .is)
 
   -- The blocks of the header at hand are the file's, from block d on.
@@ -131,10 +131,10 @@ module _ (image : List ℕ) (n : ℕ) (h : List ℕ) (d : ℕ) (w : Walk image n
 
   -- A bad link breaks the chain, and in a good chain the link is good.
   pub walk-bad : goodLink image h ≡ false → goodChain image n ≡ false
-  walk-bad b = left-links ∙ every-not (header image) (linkOf image) (255 - segment h) (w .number) (link-here ∙ b)
+  walk-bad b = left-links ∙ every-not (header image) (goodLinkOf image) (255 - segment h) (w .number) (link-here ∙ b)
 
   pub walk-good : goodChain image n ≡ true → goodLink image h ≡ true
-  walk-good g = sym link-here ∙ every-first (header image) (linkOf image) (255 - segment h) (w .number) (sym left-links ∙ g)
+  walk-good g = sym link-here ∙ every-first (header image) (goodLinkOf image) (255 - segment h) (w .number) (sym left-links ∙ g)
 
   module _ (e : mEfnu h ≡ 0) where
     no-link : mEfnu (header image (w .number)) ≡ 0
@@ -146,7 +146,7 @@ module _ (image : List ℕ) (n : ℕ) (h : List ℕ) (d : ℕ) (w : Walk image n
 
     pub walk-end-good : goodChain image n ≡ true
     walk-end-good =
-        left-links ∙ every-end (header image) (linkOf image) (255 - segment h) (w .number) no-link
+        left-links ∙ every-end (header image) (goodLinkOf image) (255 - segment h) (w .number) no-link
         ∙ ap (λ (t : Bool). t && true) (link-here ∙ link-end image h e)
 
     pub walk-end-length : length (fileBlocks image n) ≡ d + length (blocksOf h)
@@ -169,7 +169,7 @@ module _ (image : List ℕ) (n : ℕ) (h : List ℕ) (d : ℕ) (w : Walk image n
         whole = l .whole;
         low = r .low;
         links =
-            left-links ∙ every-more (header image) (linkOf image) (255 - segment h) (w .number) ne′
+            left-links ∙ every-more (header image) (goodLinkOf image) (255 - segment h) (w .number) ne′
             ∙ rw (link-here, r .good, w .is, f);
         past = w .past ++ blocksOf h;
         count = length-append (w .past) (blocksOf h) ∙ ap (λ (k : ℕ). k + length (blocksOf h)) (w .count);

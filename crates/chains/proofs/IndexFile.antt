@@ -1,23 +1,21 @@
 -- The chain of file 1 and the index file's headers are the same: what was read in the part that earlier segments map is what the whole has there.
 use mathlib.Core.Path.{_≡_, refl, sym, ap, _∙_}
-use mathlib.Core.Bool.{Bool, true, false, cond, _&&_}
+use mathlib.Core.Bool.{Bool, true, false}
 use mathlib.Core.List.{List, [], _∷_, _++_, append-nil, append-assoc}
 use Prim.Native.Nat.{ℕ, zero, suc, _+_, _-_, _≤_, _<_}
 use native.Mathlib.Numerals.{add-one}
 use native.Mathlib.Omega.{arith}
 use borrow.Author.Tests.{eq-eqb, eqb-true, le-leb}
-use lib.Dec.{eqb}
 use lib.ListN.{length, getD, length-append, List·getD-append}
 use Rattle.image.specs.Blocks.{block}
 use Rattle.header.specs.Fields.{hFseq, segment, mEfnu, mEfsq}
 use Rattle.pointers.specs.Pointers.{blocksOf}
-use Rattle.whole.specs.Whole.{fault}
 use Rattle.home.specs.Home.{blocks}
-use Rattle.volume.specs.Volume.{ibsz, iblb, inUse, partSlot, partSlots, follows, leadsOn, placesFrom, places, index, indexEnds, slot, slots, hasSlot, header, faultOf, isNumber}
+use Rattle.volume.specs.Volume.{ibsz, iblb, partSlot, follows, leadsOn, placesFrom, places, index, indexEnds, slot, slots, hasSlot, header, isNumber}
 use Rattle.pointers.specs.Pointers.{flat}
 use Rattle.volume.proofs.IndexLaws.{mapped-none, mapped-more, from-first, from-end, from-more, from-none, Leads, leads, used-low}
 use Rattle.volume.proofs.VolumeLaws.{Opens, slot-first}
-use Rattle.chains.specs.Chains.{linksOn, goodLink, chain, chainOf, linkOf, goodChain, fileBlocks}
+use Rattle.chains.specs.Chains.{linksOn, goodLink, chain, chainOf, goodLinkOf, goodChain, fileBlocks}
 use Rattle.lists.specs.Lists.{every}
 use Rattle.chains.proofs.LinkLaws.{link-end, link-more}
 use Rattle.chains.proofs.ChainLaws.{chain-end, chain-more, flat-end, flat-more, every-end, every-more}
@@ -35,7 +33,7 @@ module _ (image : List ℕ) where
   -- A walk along the chain of file 1 and one along the places, from the header of number n, which lies at an LBN, on.
   pub record Same (f n : ℕ) (ls : List ℕ) : Type 0 where
     pub blocks : flat (header image) (chain (header image) f n) ≡ flat (block image) ls
-    pub good : every (linkOf image) (chain (header image) f n) ≡ true
+    pub good : every (goodLinkOf image) (chain (header image) f n) ≡ true
     pub long : length (chain (header image) f n) ≡ length ls
     pub slots : (j : ℕ) → j < length ls → slot image (getD (chain (header image) f n) j 0) ≡ getD ls j 0
 
@@ -68,12 +66,12 @@ module _ (image : List ℕ) where
 
   -- The header at hand is the last.
   same-end : (f n at : ℕ) → slot image n ≡ at → mEfnu (block image at) ≡ 0 → Same (f + 1) n (at ∷ [])
-  unfolding header linkOf
+  unfolding header goodLinkOf
   same-end f n at here e =
       let z : mEfnu (header image n) ≡ 0 = rw here e in
       record {
         blocks = flat-end (header image) f n z ∙ rw (here, mapped-more image at [], mapped-none image) (sym (append-nil (blocksOf (block image at))));
-        good = every-end (header image) (linkOf image) f n z ∙ rw (link-end image (header image n) z);
+        good = every-end (header image) (goodLinkOf image) f n z ∙ rw (link-end image (header image n) z);
         long = ap length (chain-end (header image) f n z);
         slots = λ j l. let q : j ≡ 0 = omega arith in rw (q, chain-end (header image) f n z) here;
       }
@@ -81,12 +79,12 @@ module _ (image : List ℕ) where
   -- There is a further one.
   same-on : (f n at : ℕ) (ls : List ℕ) → slot image n ≡ at → (mEfnu (block image at) ≡ 0 → ⊥) → goodLink image (block image at) ≡ true
       → Same f (mEfnu (block image at)) ls → Same (f + 1) n (at ∷ ls)
-  unfolding header linkOf
+  unfolding header goodLinkOf
   same-on f n at ls here ne good s =
       let nz : mEfnu (header image n) ≡ 0 → ⊥ = λ z. ne (rw here at z) in
       record {
         blocks = flat-more (header image) f n nz ∙ rw (here, mapped-more image at ls, s .blocks);
-        good = every-more (header image) (linkOf image) f n nz ∙ rw (here, good) (s .good);
+        good = every-more (header image) (goodLinkOf image) f n nz ∙ rw (here, good) (s .good);
         long = ap length (chain-more (header image) f n nz) ∙ rw here (ap suc (s .long));
         slots = λ j l. rw (chain-more (header image) f n nz) (go j l);
       }

@@ -10,7 +10,7 @@ use lib.Seq.{getD-take, take-suc-set, length-take-le}
 use Rattle.image.specs.Words.{Bytes}
 use Rattle.header.specs.Fields.{segment, mEfnu}
 use Rattle.volume.specs.Volume.{slot, header, isNumber}
-use Rattle.chains.specs.Chains.{chain, chainOf, linkOf, goodChain, IsFirst, lastNumber, slotsOf}
+use Rattle.chains.specs.Chains.{chain, chainOf, goodLinkOf, goodChain, IsFirst, lastNumber, slotsOf}
 use Rattle.lists.specs.Lists.{every, lastOf}
 use Rattle.chains.proofs.NumberLaws.{segment-most}
 use Rattle.chains.proofs.LinkLaws.{Linked, good-links}
@@ -57,7 +57,7 @@ pub record Gathers (image : List ℕ) (n : ℕ) (numbers slots : List ℕ) (numb
   pub used : isNumber image number ≡ true
   pub lies : at ≡ slot image number
   pub place : segment (header image number) ≡ count
-  pub links : every (linkOf image) (chain (header image) (256 - count) number) ≡ true
+  pub links : every (goodLinkOf image) (chain (header image) (256 - count) number) ≡ true
   pub rooms : length numbers ≡ 256
   pub spots : length slots ≡ 256
   pub seen : chainOf image n ≡ take count numbers ++ chain (header image) (256 - count) number
@@ -88,7 +88,7 @@ module _ (image : List ℕ) (n : ℕ) (numbers slots : List ℕ) (number at coun
   some : 256 - count ≡ 255 - count + 1
   some = omega (arith, gathers-room)
 
-  left : every (linkOf image) (chain (header image) (255 - count + 1) number) ≡ true
+  left : every (goodLinkOf image) (chain (header image) (255 - count + 1) number) ≡ true
   left = rw (← some) (g .links)
 
   here : chainOf image n ≡ take count numbers ++ chain (header image) (255 - count + 1) number
@@ -121,14 +121,14 @@ module _ (image : List ℕ) (n : ℕ) (numbers slots : List ℕ) (number at coun
       }
 
   module _ (ne : mEfnu h ≡ 0 → ⊥) where
-    both : (linkOf image number ≡ true) × (every (linkOf image) (chain (header image) (255 - count) (mEfnu h)) ≡ true)
+    both : (goodLinkOf image number ≡ true) × (every (goodLinkOf image) (chain (header image) (255 - count) (mEfnu h)) ≡ true)
     both =
-        and-eq-true-iff (linkOf image number) (every (linkOf image) (chain (header image) (255 - count) (mEfnu h))) .0
-        (sym (every-more (header image) (linkOf image) (255 - count) number ne) ∙ left)
+        and-eq-true-iff (goodLinkOf image number) (every (goodLinkOf image) (chain (header image) (255 - count) (mEfnu h))) .0
+        (sym (every-more (header image) (goodLinkOf image) (255 - count) number ne) ∙ left)
 
     -- What M.EFNU names.
     pub gathers-linked : Linked image h
-    unfolding linkOf
+    unfolding goodLinkOf
     gathers-linked = good-links image h ne (both .0)
 
     -- With it the walk comes to the header that it names.

@@ -17,7 +17,7 @@ use Rattle.whole.proofs.WholeLaws.{whole-inside}
 use Rattle.home.specs.Home.{blocks}
 use Rattle.volume.specs.Volume.{slot, header, faultOf}
 use Rattle.volume.proofs.IndexLaws.{blocksOf-most}
-use Rattle.chains.specs.Chains.{chain, chainOf, linkOf, goodChain, IsFirst, fileBlocks}
+use Rattle.chains.specs.Chains.{chain, chainOf, goodLinkOf, goodChain, IsFirst, fileBlocks}
 use Rattle.pointers.specs.Pointers.{flat}
 use Rattle.lists.specs.Lists.{every}
 use Rattle.chains.proofs.LinkLaws.{good-links}
@@ -46,7 +46,7 @@ module _ (image : List ℕ) where
   -- What is left of a chain, at most f headers from number m on.
   abbrev Below : ℕ → ℕ → Type 0
   Below f m =
-      faultOf image m ≡ 0 → every (linkOf image) (chain (header image) f m) ≡ true
+      faultOf image m ≡ 0 → every (goodLinkOf image) (chain (header image) f m) ≡ true
       → (j : ℕ) → j < length (flat (header image) (chain (header image) f m)) → getD (flat (header image) (chain (header image) f m)) j 0 < blocks image
 
   here-below : (m : ℕ) → faultOf image m ≡ 0 → (j : ℕ) → j < length (blocksOf (header image m)) → getD (blocksOf (header image m)) j 0 < blocks image
@@ -54,7 +54,7 @@ module _ (image : List ℕ) where
   here-below m whole = whole-inside (blocks image) m (header image m) whole
 
   more-below : (f m : ℕ) → Below f (mEfnu (header image m)) → Below (f + 1) m
-  unfolding linkOf
+  unfolding goodLinkOf
   more-below f m on whole good j l = go (ℕ-discrete (mEfnu h) 0) (decLt j (length (blocksOf h)))
     where
       h : List ℕ
@@ -67,7 +67,7 @@ module _ (image : List ℕ) where
       go (yes e) d = rw (flat-end (header image) f m e) (here-below m whole j (rw (flat-end (header image) f m e) at l))
       go (no ne) (yes s) = rw (flat-more (header image) f m ne, List·getD-append (blocksOf h) rest 0 j s) (here-below m whole j s)
       go (no ne) (no s) =
-          let both = and-eq-true-iff (linkOf image m) (every (linkOf image) (chain (header image) f (mEfnu h))) .0 (rw (every-more (header image) (linkOf image) f m ne) at good) in
+          let both = and-eq-true-iff (goodLinkOf image m) (every (goodLinkOf image) (chain (header image) f (mEfnu h))) .0 (rw (every-more (header image) (goodLinkOf image) f m ne) at good) in
           let i = j - length (blocksOf h) in
           let e : j ≡ length (blocksOf h) + i = omega arith in
           rw (flat-more (header image) f m ne, e, getD-append-add (blocksOf h) rest i 0)

@@ -53,11 +53,11 @@ unfoldable pub chainOf : List ℕ → ℕ → List ℕ
 chainOf image n = chain (header image) 256 n
 
 -- 01, Answer numbers: "12 CHAIN | a bad link". The header of number n has a good link.
-unfoldable pub linkOf : List ℕ → ℕ → Bool
-linkOf image n = goodLink image (header image n)
+unfoldable pub goodLinkOf : List ℕ → ℕ → Bool
+goodLinkOf image n = goodLink image (header image n)
 
 unfoldable pub goodChain : List ℕ → ℕ → Bool
-goodChain image n = every (linkOf image) (chainOf image n)
+goodChain image n = every (goodLinkOf image) (chainOf image n)
 
 -- What finding a file's header asks of its number n. 01, Answer numbers, 7, 8 and 10: in use with a slot, whole, segment 0.
 abbrev pub IsFirst : List ℕ → ℕ → Type 0

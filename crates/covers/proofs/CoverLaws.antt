@@ -18,7 +18,7 @@ use Rattle.home.specs.Home.{blocks}
 use Rattle.volume.specs.Volume.{fmax, hasSlot, header, faultOf, inUse, isNumber}
 use Rattle.volume.specs.Opening.{openVolume}
 use Rattle.volume.proofs.VolumeLaws.{opens, header-length}
-use Rattle.chains.specs.Chains.{goodLink, chain, chainOf, linkOf, goodChain, fileBlocks}
+use Rattle.chains.specs.Chains.{goodLink, chain, chainOf, goodLinkOf, goodChain, fileBlocks}
 use Rattle.pointers.specs.Pointers.{flat}
 use Rattle.lists.specs.Lists.{every}
 use Rattle.chains.proofs.LinkLaws.{good-links}
@@ -102,13 +102,13 @@ module _ (image : List ℕ) (good : (n : ℕ) → inUse image n ≡ true → goo
   unfolding isNumber
   next-used n u ne = and-eq-true-iff (inUse image (mEfnu (header image n))) (hasSlot image (mEfnu (header image n))) .0 (good-links image (header image n) ne (good n u) .number) .0
 
-  every-good : (f n : ℕ) → inUse image n ≡ true → every (linkOf image) (chain (header image) f n) ≡ true
-  unfolding chain every linkOf
+  every-good : (f n : ℕ) → inUse image n ≡ true → every (goodLinkOf image) (chain (header image) f n) ≡ true
+  unfolding chain every goodLinkOf
   every-good zero n u = refl
   every-good (suc f) n u = rw (good n u) (go (ℕ-discrete (mEfnu (header image n)) 0) (every-good f (mEfnu (header image n))))
     where
-      go : Dec (mEfnu (header image n) ≡ 0) → (inUse image (mEfnu (header image n)) ≡ true → every (linkOf image) (chain (header image) f (mEfnu (header image n))) ≡ true)
-          → every (linkOf image) (cond (eqb (mEfnu (header image n)) 0) [] (chain (header image) f (mEfnu (header image n)))) ≡ true
+      go : Dec (mEfnu (header image n) ≡ 0) → (inUse image (mEfnu (header image n)) ≡ true → every (goodLinkOf image) (chain (header image) f (mEfnu (header image n))) ≡ true)
+          → every (goodLinkOf image) (cond (eqb (mEfnu (header image n)) 0) [] (chain (header image) f (mEfnu (header image n)))) ≡ true
       go (yes e) on = rw (eq-eqb (mEfnu (header image n)) 0 e) refl
       go (no ne) on = rw (ne-eqb (mEfnu (header image n)) 0 ne) (on (next-used n u ne))
 

@@ -43,5 +43,5 @@ wrongBit map lbns n j = not (eqb (bitAt map j) (oneIf (ltb j n && eqb (count j l
 unfoldable pub mapPlace : List ℕ → ℕ
 mapPlace image = first (wrongBit (storageMap image) (covered image) (blocks image)) 0 (mapBits (blocks image))
 
-unfoldable pub map : List ℕ → Outcome
-map image = unless (eqb (mapPlace image) (mapBits (blocks image))) (refusal.Map (mapPlace image))
+unfoldable pub badMap : List ℕ → Outcome
+badMap image = unless (eqb (mapPlace image) (mapBits (blocks image))) (refusal.Map (mapPlace image))

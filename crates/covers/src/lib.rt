@@ -32,7 +32,7 @@ ghost use Rattle.volume.specs.Opening.{openVolume, Open, Recorded};
 ghost use Rattle.slots.specs.Slots.{Stands};
 ghost use Rattle.marks.specs.Marks.{tallied, raisedBy};
 ghost use Rattle.files.specs.Files.{files};
-ghost use Rattle.covers.specs.Covered.{Ends, covered, twice, map};
+ghost use Rattle.covers.specs.Covered.{Ends, covered, twice, badMap};
 
 // The marks of the blocks that a header covers raised, by one walk over its pointers.
 pub fn raise_header(h: &[u8], area: &mut [u8])
@@ -100,9 +100,9 @@ pub fn twice(image: &[u8], v: Volume, area: &[u8]) -> Outcome
 }
 
 // MAP, by the block marks.
-pub fn map(image: &[u8], v: Volume, area: &[u8]) -> Outcome
+pub fn bad_map(image: &[u8], v: Volume, area: &[u8]) -> Outcome
     requires { ⌜ Open (now image) v × (blocks (now image) ≤ length (now area)) × (now area ≡ tallied (covered (now image)) 0 (blocks (now image)) (now area)) ⌝ }
-    ensures { λ r. ⌜ r ≡ map (now (image .entry)) ⌝ }
+    ensures { λ r. ⌜ r ≡ badMap (now (image .entry)) ⌝ }
 {
     let q = map_blocks(v.blocks);
     let bits = region(image, v.base, q);

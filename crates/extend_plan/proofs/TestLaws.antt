@@ -17,9 +17,9 @@ use Rattle.header.specs.Flags.{isFixed}
 use Rattle.home.specs.Home.{blocks}
 use Rattle.volume.specs.Volume.{slot, header, storageMap}
 use Rattle.volume.specs.Opening.{openVolume}
-use Rattle.runs.specs.declared.Start.{Start}
-use Rattle.runs.specs.declared.Start.the-variants as starts
-use Rattle.runs.specs.Runs.{startOf}
+use Rattle.lowest_run.specs.declared.Start.{Start}
+use Rattle.lowest_run.specs.declared.Start.the-variants as starts
+use Rattle.lowest_run.specs.Runs.{startOf}
 use Rattle.chains.specs.Chains.{lastNumber}
 use Rattle.open_file.specs.Opening.{anyone, openOn}
 use Rattle.open_file.proofs.OpeningLaws.{by-on}

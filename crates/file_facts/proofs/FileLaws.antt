@@ -1,8 +1,7 @@
 -- Laws of the end of a file, and of what an opened file says.
 use mathlib.Core.Path.{_≡_}
 use mathlib.Core.List.{List}
-use Prim.Native.Nat.{ℕ, _+_, _*_, _-_, min}
-use borrow.Author.Tests.{eq-eqb, ne-eqb}
+use Prim.Native.Nat.{ℕ, _-_}
 use lib.ListN.{length}
 use Rattle.answer.specs.declared.types.FileId.{FileId}
 use Rattle.answer.specs.declared.refusal.Refusal.{Refusal}
@@ -12,7 +11,6 @@ use Rattle.chains.specs.Chains.{fileBlocks}
 use Rattle.open_file.specs.Opening.{openFile}
 use Rattle.file_facts.specs.declared.types.Attributes.{Attributes}
 use Rattle.file_facts.specs.declared.types.AttributesAnswer.the-variants as answers
-use Rattle.header.specs.Attributes.{fEfbk, fFfby, endOf}
 use Rattle.file_facts.specs.Files.{attributesOf, attributesBy, attributesAnswer}
 
 module _ (image : List ℕ) (id : FileId) where

@@ -1,27 +1,24 @@
 -- Laws of finding the header of a number, and of what is answered from it.
-use mathlib.Core.Path.{_≡_, sym, ap, _∙_}
-use mathlib.Core.Bool.{true, false}
+use mathlib.Core.Path.{_≡_}
+use mathlib.Core.Bool.{true}
 use mathlib.Core.List.{List}
-use Prim.Native.Nat.{ℕ, _+_, _*_, _≤_, _<_}
+use Prim.Native.Nat.{ℕ, _≤_, _<_}
 use native.Mathlib.Omega.{arith}
-use borrow.Author.Tests.{eq-eqb, ne-eqb, eqb-true, lt-ltb, le-ltb}
-use lib.Dec.{eqb}
+use borrow.Author.Tests.{lt-ltb, le-ltb}
 use lib.ListN.{length}
-use Rattle.image.specs.Words.{wordAt}
 use Rattle.answer.specs.declared.types.Lbn.{Lbn}
-use Rattle.answer.specs.declared.types.Name.{Name}
 use Rattle.answer.specs.declared.refusal.Refusal.{Refusal}
 use Rattle.answer.specs.declared.refusal.Refusal.the-variants as refusal
 use Rattle.answer.specs.declared.outcome.Outcome.the-variants.{Passed, Refused}
 use Rattle.answer.specs.declared.answers.RunAnswer.the-variants as runs
 use Rattle.answer.specs.Outcome.{unless, _then_}
 use Rattle.answer.specs.Answers.{runAnswer}
-use Rattle.answer.proofs.OutcomeLaws.{refused-not, passed-then, passed-last, passed-first}
+use Rattle.answer.proofs.OutcomeLaws.{passed-then}
 use Rattle.header.specs.Fields.{hIdof}
 use Rattle.pointers.specs.Pointers.{pointerLbn, pointerCount, pointers, Fits}
 use Rattle.whole.proofs.WholeLaws.{whole-is}
 use Rattle.home.specs.Home.{blocks}
-use Rattle.volume.specs.Volume.{slot, header, faultOf, isNumber}
+use Rattle.volume.specs.Volume.{header, faultOf, isNumber}
 use Rattle.volume.specs.Opening.{openVolume}
 use Rattle.chains.proofs.NumberLaws.{number-length, number-fits}
 use Rattle.chains.specs.Finding.{findNumber}

@@ -5,7 +5,6 @@ use answer::answers::RunAnswer;
 use answer::outcome::Outcome;
 use answer::refusal::Refusal;
 use answer::types::FileNumber;
-use answer::types::Lbn;
 use chains::find_number;
 use chains::slot_in_use;
 use header::fields::h_fseq;

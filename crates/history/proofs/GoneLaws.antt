@@ -9,7 +9,7 @@ use Rattle.header.specs.Fields.{hFseq}
 use Rattle.volume.specs.Volume.{slots, header, inUse}
 use Rattle.open_file.specs.Opening.{anyone}
 use Rattle.update.proofs.Effects.{Usable, Good}
-use Rattle.history.specs.Calls.{Call, step, run, Words, Each}
+use Rattle.history.specs.Calls.{Call, step, imageAfter, Words, Each}
 use Rattle.history.specs.ReadBack.{Gone}
 use Rattle.history.proofs.Step.{Step}
 use Rattle.history.proofs.OpenLaws.{open-unused, open-stale}
@@ -36,12 +36,12 @@ spent-step call image image′ id s p =
     go true e u = omega (arith, s .rises (id .number) (p .low) (p .has), p .passed e)
     go false e u = omega (arith, s .renewed (id .number) (p .low) (p .has) e u, p .reached)
 
-pub run-spent : (calls : List Call) (image : List ℕ) (id : FileId) → Good image → Each Words calls → Spent image id → Spent (run calls image) id
-unfolding run
-run-spent [] image id g w p = p
-run-spent (call ∷ calls) image id g w p =
+pub after-spent : (calls : List Call) (image : List ℕ) (id : FileId) → Good image → Each Words calls → Spent image id → Spent (imageAfter calls image) id
+unfolding imageAfter
+after-spent [] image id g w p = p
+after-spent (call ∷ calls) image id g w p =
     let s = step-is call image g (w .0) in
-    run-spent calls (step call image) id (s .good) (w .1) (spent-step call image (step call image) id s p)
+    after-spent calls (step call image) id (s .good) (w .1) (spent-step call image (step call image) id s p)
 
 pub spent-gone : (image : List ℕ) (id : FileId) → Usable image → id .volume ≡ 0 → Spent image id → Gone image id
 spent-gone image id g v p = record {

@@ -16,7 +16,7 @@ use Rattle.lists.proofs.CountLaws.{count-at}
 use Rattle.sound.specs.Claims.{IsFile}
 use Rattle.sound.proofs.ExactLaws.{exact}
 use Rattle.update.proofs.Effects.{Usable, Good, good-usable}
-use Rattle.history.specs.Calls.{Call, step, run, Words, Names, Each}
+use Rattle.history.specs.Calls.{Call, step, imageAfter, Words, Names, Each}
 use Rattle.history.specs.Claims.{Accepted, lastKnown, Protected, Same, Demand3}
 use Rattle.history.specs.Writing.{WritesBounded, VolumeSteady}
 use Rattle.history.proofs.Step.{Step}
@@ -37,10 +37,10 @@ pub good-accepted : (image : List ℕ) → Good image → Accepted image
 good-accepted image g area headers room rest = exact image area headers room rest .always (opens-all image (g .opens)) (g .sound)
 
 -- The list.
-pub run-good : (calls : List Call) (image : List ℕ) → Good image → Each Words calls → Good (run calls image)
-unfolding run
-run-good [] image g w = g
-run-good (call ∷ calls) image g w = run-good calls (step call image) (step-is call image g (w .0) .good) (w .1)
+pub after-good : (calls : List Call) (image : List ℕ) → Good image → Each Words calls → Good (imageAfter calls image)
+unfolding imageAfter
+after-good [] image g w = g
+after-good (call ∷ calls) image g w = after-good calls (step call image) (step-is call image g (w .0) .good) (w .1)
 
 -- What a step keeps of a file that it does not name.
 step-same : (call : Call) (image image′ : List ℕ) → Usable image → Step call image image′ → (f : ℕ) → lastKnown < f → IsFile image f
@@ -63,21 +63,21 @@ same-trans image image′ image″ f a b = record {
   bytes = λ i l. rw (a .blocks) at (b .bytes i (rw (a .blocks) l)) ∙ a .bytes i l;
 }
 
-pub run-same : (calls : List Call) (image : List ℕ) → Good image → Each Words calls → (f : ℕ) → Protected image calls f → Same image (run calls image) f
-unfolding run
-run-same [] image g w f p = record { file = p .file; sequence = refl; blocks = refl; bytes = λ i l. refl }
-run-same (call ∷ calls) image g w f p =
+pub after-same : (calls : List Call) (image : List ℕ) → Good image → Each Words calls → (f : ℕ) → Protected image calls f → Same image (imageAfter calls image) f
+unfolding imageAfter
+after-same [] image g w f p = record { file = p .file; sequence = refl; blocks = refl; bytes = λ i l. refl }
+after-same (call ∷ calls) image g w f p =
     let s = step-is call image g (w .0) in
     let a = step-same call image (step call image) (good-usable g) s f (p .above) (p .file) (p .unnamed .0) in
     let q : Protected (step call image) calls f = record { above = p .above; file = a .file; unnamed = rw (a .sequence) (p .unnamed .1) } in
-    same-trans image (step call image) (run calls (step call image)) f a (run-same calls (step call image) (s .good) (w .1) f q)
+    same-trans image (step call image) (imageAfter calls (step call image)) f a (after-same calls (step call image) (s .good) (w .1) f q)
 
 pub demand3 : Demand3
 demand3 image bytes a calls w =
     let g = accepted-good image bytes a in
     record {
-      accepted = good-accepted (run calls image) (run-good calls image g w);
-      files = λ f p. run-same calls image g w f p;
+      accepted = good-accepted (imageAfter calls image) (after-good calls image g w);
+      files = λ f p. after-same calls image g w f p;
     }
 
 -- One call writes only what the rules name.
@@ -93,12 +93,12 @@ record Risen (image image′ : List ℕ) : Type 0 where
   slotted : slots image′ ≡ slots image
   rises : (n : ℕ) → 1 ≤ n → n ≤ slots image → hFseq (header image n) ≤ hFseq (header image′ n)
 
-run-risen : (calls : List Call) (image : List ℕ) → Good image → Each Words calls → Risen image (run calls image)
-unfolding run
-run-risen [] image g w = record { volume = refl; places = refl; slotted = refl; rises = λ n a b. omega arith }
-run-risen (call ∷ calls) image g w =
+after-risen : (calls : List Call) (image : List ℕ) → Good image → Each Words calls → Risen image (imageAfter calls image)
+unfolding imageAfter
+after-risen [] image g w = record { volume = refl; places = refl; slotted = refl; rises = λ n a b. omega arith }
+after-risen (call ∷ calls) image g w =
     let s = step-is call image g (w .0) in
-    let r = run-risen calls (step call image) (s .good) (w .1) in
+    let r = after-risen calls (step call image) (s .good) (w .1) in
     record {
       volume = r .volume ∙ s .volume;
       places = r .places ∙ s .places;
@@ -109,9 +109,9 @@ run-risen (call ∷ calls) image g w =
 pub steady : VolumeSteady
 steady image bytes a calls w =
     let g = accepted-good image bytes a in
-    let r = run-risen calls image g w in
+    let r = after-risen calls image g w in
     record {
-      opens = opens-all (run calls image) (run-good calls image g w .opens);
+      opens = opens-all (imageAfter calls image) (after-good calls image g w .opens);
       volume = r .volume;
       places = r .places;
       slotted = r .slotted;

@@ -11,7 +11,7 @@ use Rattle.answer.specs.declared.outcome.Outcome.the-variants.{Passed, Refused}
 use Rattle.header.specs.Fields.{hFseq}
 use Rattle.volume.specs.Volume.{slots, hasSlot, header, inUse, isNumber}
 use Rattle.volume.proofs.VolumeLaws.{opens-all}
-use Rattle.chains.specs.Chains.{chainOf, linkOf, goodChain}
+use Rattle.chains.specs.Chains.{chainOf, goodLinkOf, goodChain}
 use Rattle.lists.specs.Lists.{every}
 use Rattle.open_file.specs.Opening.{Gate, openOn, openBy}
 use Rattle.header.specs.Flags.{locked}
@@ -35,9 +35,9 @@ module _ (image : List ℕ) (g : Usable image) where
   used-number n u = rw (u, le-leb n (slots image) (g .safe .slotted n u)) refl
 
   pub good-chain : (n : ℕ) → IsFile image n → goodChain image n ≡ true
-  unfolding goodChain linkOf
+  unfolding goodChain goodLinkOf
   good-chain n file =
-      every-all (linkOf image) (chainOf image n) (λ x m. link-is image x .holds (g .safe .link x (member-used image (g .safe) n file x m)))
+      every-all (goodLinkOf image) (chainOf image n) (λ x m. link-is image x .holds (g .safe .link x (member-used image (g .safe) n file x m)))
 
   -- A file's own header is a member of its chain.
   pub first-in : (f : ℕ) → IsFile image f → In f (chainOf image f)

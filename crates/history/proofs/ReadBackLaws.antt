@@ -36,14 +36,14 @@ use Rattle.update.proofs.LastLaws.{file-grow}
 use Rattle.update.proofs.CreateLaws.{create-header, create-effect}
 use Rattle.update.proofs.ExtendLaws.{extend-header, extend-effect, extends as grown}
 use Rattle.update.proofs.DeleteLaws.{delete-known, delete-effect}
-use Rattle.history.specs.Calls.{create, extend, delete, run}
+use Rattle.history.specs.Calls.{create, extend, delete, imageAfter}
 use Rattle.history.specs.ReadBack.{AfterCreate, AfterExtend, AfterDelete, CallsReadBack}
 use Rattle.history.proofs.OpenLaws.{open-file, first-in}
 use Rattle.history.proofs.CreateStep as creating
 use Rattle.history.proofs.ExtendStep as extending
 use Rattle.history.proofs.DeleteStep as deleting
-use Rattle.history.proofs.ListLaws.{accepted-good, run-good}
-use Rattle.history.proofs.GoneLaws.{Spent, run-spent, spent-gone}
+use Rattle.history.proofs.ListLaws.{accepted-good, after-good}
+use Rattle.history.proofs.GoneLaws.{Spent, after-spent, spent-gone}
 
 -- No flag locks a header that has none.
 unlocked : (h : List ℕ) → userFlags h ≡ 0 → systemFlags h ≡ 0 → locked h ≡ false
@@ -101,7 +101,7 @@ module _ (image : List ℕ) (g : Good image) where
         reached = omega (arith, word, f .opens .found .sequence);
         passed = λ u. absurd (false≢true (sym gone ∙ u));
       } in
-      rw (delete-passes image id (length area) (length headers) p) (gone, λ calls w. spent-gone (run calls z) id (good-usable (run-good calls z (s .good) w)) (f .opens .found .relvol) (run-spent calls z id (s .good) w spent))
+      rw (delete-passes image id (length area) (length headers) p) (gone, λ calls w. spent-gone (imageAfter calls z) id (good-usable (after-good calls z (s .good) w)) (f .opens .found .relvol) (after-spent calls z id (s .good) w spent))
 
   module _ (id : FileId) (c : ℕ) (area headers : List ℕ) (p : extendOutcome image id c (length area) (length headers) ≡ Passed) where
     abbrev f : ℕ

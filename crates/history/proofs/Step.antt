@@ -8,7 +8,7 @@ use Rattle.image.specs.Blocks.{block}
 use Rattle.header.specs.Fields.{hFseq}
 use Rattle.volume.specs.Volume.{slots, header, inUse, volumeOf, placesOf}
 use Rattle.sound.specs.Claims.{IsFile}
-use Rattle.update.proofs.Effects.{Good, Kept}
+use Rattle.update.proofs.Effects.{Good, KeptFile}
 use Rattle.history.specs.Calls.{Call, Names}
 use Rattle.history.specs.Claims.{lastKnown}
 use Rattle.history.specs.Writing.{Unwritten}
@@ -20,7 +20,7 @@ pub record Step (call : Call) (image image′ : List ℕ) : Type 0 where
   pub slotted : slots image′ ≡ slots image
   -- A file that the call does not name is in use, and keeps its headers, its blocks and their bytes.
   pub used : (f : ℕ) → lastKnown < f → IsFile image f → (Names call f (hFseq (header image f)) → ⊥) → inUse image′ f ≡ true
-  pub kept : (f : ℕ) → lastKnown < f → IsFile image f → (Names call f (hFseq (header image f)) → ⊥) → Kept image image′ f
+  pub kept : (f : ℕ) → lastKnown < f → IsFile image f → (Names call f (hFseq (header image f)) → ⊥) → KeptFile image image′ f
   -- The sequence word of a slot does not fall, and rises where the number is used anew.
   pub rises : (n : ℕ) → 1 ≤ n → n ≤ slots image → hFseq (header image n) ≤ hFseq (header image′ n)
   pub renewed : (n : ℕ) → 1 ≤ n → n ≤ slots image → inUse image n ≡ false → inUse image′ n ≡ true → hFseq (header image n) < hFseq (header image′ n)

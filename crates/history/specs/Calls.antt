@@ -32,9 +32,9 @@ step (extend id c area headers) image = extendImage image id c (length area) (le
 step (delete id area headers) image = deleteImage image id (length area) (length headers)
 
 -- 00, 3: "Each call gets the image that the last one left, and nobody else writes it meanwhile."
-unfoldable pub run : List Call → List ℕ → List ℕ
-run [] image = image
-run (call ∷ calls) image = run calls (step call image)
+unfoldable pub imageAfter : List Call → List ℕ → List ℕ
+imageAfter [] image = image
+imageAfter (call ∷ calls) image = imageAfter calls (step call image)
 
 -- A word is 16 bits. 01, The work and its edge: "Words are two bytes".
 abbrev pub Word : ℕ → Type 0

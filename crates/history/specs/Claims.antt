@@ -12,7 +12,7 @@ use Rattle.volume.specs.Volume.{fmax, header}
 use Rattle.chains.specs.Chains.{fileBlocks}
 use Rattle.verdict.specs.Verdict.{judgeAnswer}
 use Rattle.sound.specs.Claims.{isDone, IsFile}
-use Rattle.history.specs.Calls.{Call, run, Words, Names, Each}
+use Rattle.history.specs.Calls.{Call, imageAfter, Words, Names, Each}
 
 -- 01, Demand 3: "An image is accepted where the verdict on it, with work areas of N and H.FMAX bytes or more and any content, answers DONE."
 abbrev pub Accepted : List ℕ → Type 0
@@ -39,8 +39,8 @@ pub record Same (image image′ : List ℕ) (f : ℕ) : Type 0 where
 -- Demand 3. 00, 3: "For every accepted image and every list of create, extend and delete calls on it, refused ones included, the image after the list is
 -- accepted." "Every file numbered above 5 .. is in use after it and maps the same blocks in the same order with the same bytes." An image is a list of bytes.
 pub record Kept (image : List ℕ) (calls : List Call) : Type 0 where
-  pub accepted : Accepted (run calls image)
-  pub files : (f : ℕ) → Protected image calls f → Same image (run calls image) f
+  pub accepted : Accepted (imageAfter calls image)
+  pub files : (f : ℕ) → Protected image calls f → Same image (imageAfter calls image) f
 
 abbrev pub Demand3 : Type 0
 Demand3 = (image : List ℕ) → Bytes image → Accepted image → (calls : List Call) → Each Words calls → Kept image calls

@@ -21,7 +21,7 @@ use Rattle.open_file.specs.Opening.{openFile, openFileAnswer}
 use Rattle.update.specs.Create.{createAnswer, createImage}
 use Rattle.update.specs.Extend.{extendAnswer, extendImage}
 use Rattle.update.specs.Delete.{deleteAnswer, deleteImage}
-use Rattle.history.specs.Calls.{Call, create, run, Words, Each}
+use Rattle.history.specs.Calls.{Call, create, imageAfter, Words, Each}
 use Rattle.history.specs.Claims.{Accepted}
 
 -- After a create that is DONE its ID opens a file of no blocks.
@@ -48,7 +48,7 @@ abbrev pub AfterDelete : List ℕ → Type 0
 AfterDelete image =
     (id : FileId) (area headers : List ℕ) → deleteAnswer image id (length area) (length headers) ≡ bare.Done
     → (inUse (deleteImage image id (length area) (length headers)) (id .number) ≡ false)
-    × ((calls : List Call) → Each Words calls → Gone (run calls (deleteImage image id (length area) (length headers))) id)
+    × ((calls : List Call) → Each Words calls → Gone (imageAfter calls (deleteImage image id (length area) (length headers))) id)
 
 -- 00, 2: "Create, extend and delete change just what the rules name, and it reads back by them."
 pub record ReadsBack (image : List ℕ) : Type 0 where

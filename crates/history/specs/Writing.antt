@@ -15,7 +15,7 @@ use Rattle.lists.specs.Counts.{In}
 use Rattle.spare_number.specs.SpareNumber.{spareNumber}
 use Rattle.update.specs.Create.{indexBit}
 use Rattle.update.specs.Extend.{runStart}
-use Rattle.history.specs.Calls.{Call, create, extend, delete, outcomeOf, step, run, Words, Each}
+use Rattle.history.specs.Calls.{Call, create, extend, delete, outcomeOf, step, imageAfter, Words, Each}
 use Rattle.history.specs.Claims.{Accepted}
 
 -- 00, 1: "A refused call changes no byte of the image". This holds of every image.
@@ -48,11 +48,11 @@ WritesBounded = (image : List ℕ) → Bytes image → Accepted image → (call 
 
 -- No list of calls changes how the volume opens, and the sequence word of no slot ever falls.
 pub record Steady (image : List ℕ) (calls : List Call) : Type 0 where
-  pub opens : openVolume (run calls image) ≡ Passed
-  pub volume : volumeOf (run calls image) ≡ volumeOf image
-  pub places : placesOf (run calls image) ≡ placesOf image
-  pub slotted : slots (run calls image) ≡ slots image
-  pub rises : (n : ℕ) → 1 ≤ n → n ≤ slots image → hFseq (header image n) ≤ hFseq (header (run calls image) n)
+  pub opens : openVolume (imageAfter calls image) ≡ Passed
+  pub volume : volumeOf (imageAfter calls image) ≡ volumeOf image
+  pub places : placesOf (imageAfter calls image) ≡ placesOf image
+  pub slotted : slots (imageAfter calls image) ≡ slots image
+  pub rises : (n : ℕ) → 1 ≤ n → n ≤ slots image → hFseq (header image n) ≤ hFseq (header (imageAfter calls image) n)
 
 abbrev pub VolumeSteady : Type 0
 VolumeSteady = (image : List ℕ) → Bytes image → Accepted image → (calls : List Call) → Each Words calls → Steady image calls

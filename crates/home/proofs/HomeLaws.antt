@@ -10,7 +10,7 @@ use native.Mathlib.Decide.{ℕ-discrete}
 use Rattle.lists.specs.First.{first, below}
 use Rattle.image.specs.Words.{wordAt}
 use Rattle.image.specs.Sums.{checksum}
-use Rattle.home.specs.Home.{hIbsz, hIblb, hFmax, hSbcl, hVlev, labelAt, isHome, blocks, position, positions, homeAt, homeIndex, home}
+use Rattle.home.specs.Home.{hIbsz, hIblb, hFmax, hSbcl, hVlev, indfAt, isHome, blocks, position, positions, homeAt, homeIndex, home}
 
 -- Position i is 1 or 256 · i, and those that are counted lie below N.
 pub position-first : position 0 ≡ 1
@@ -40,11 +40,11 @@ reordered false b c d e f g h = rw (and-false b, and-false h, and-false (c && d 
 
 pub isHome-by : (b : List ℕ)
     → isHome b ≡ ((not (eqb (hIbsz b) 0) && not (eqb (hIblb b) 0) && not (eqb (hFmax b) 0) && eqb (hSbcl b) 1 && (eqb (hVlev b) 257 || eqb (hVlev b) 258))
-    && (below 12 (labelAt b) && (eqb (checksum b 29) (wordAt b 58) && eqb (checksum b 255) (wordAt b 510))))
+    && (below 12 (indfAt b) && (eqb (checksum b 29) (wordAt b 58) && eqb (checksum b 255) (wordAt b 510))))
 unfolding isHome
 isHome-by b =
     reordered (eqb (checksum b 255) (wordAt b 510)) (eqb (checksum b 29) (wordAt b 58)) (not (eqb (hIbsz b) 0)) (not (eqb (hIblb b) 0)) (not (eqb (hFmax b) 0))
-    (eqb (hSbcl b) 1) (eqb (hVlev b) 257 || eqb (hVlev b) 258) (below 12 (labelAt b))
+    (eqb (hSbcl b) 1) (eqb (hVlev b) 257 || eqb (hVlev b) 258) (below 12 (indfAt b))
 
 -- The search, where N is known.
 pub homeIndex-by : (image : List ℕ) (n : ℕ) → length image ≡ 512 * n → homeIndex image ≡ first (homeAt image) 0 (positions n)

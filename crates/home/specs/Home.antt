@@ -26,12 +26,12 @@ unfoldable pub hVlev : List ℕ → ℕ
 hVlev b = wordAt b 12
 
 -- 01, Home block: "`DECFILE11A` and two spaces".
-unfoldable pub label : List ℕ
-label = 68 ∷ 69 ∷ 67 ∷ 70 ∷ 73 ∷ 76 ∷ 69 ∷ 49 ∷ 49 ∷ 65 ∷ 32 ∷ 32 ∷ []
+unfoldable pub indf : List ℕ
+indf = 68 ∷ 69 ∷ 67 ∷ 70 ∷ 73 ∷ 76 ∷ 69 ∷ 49 ∷ 49 ∷ 65 ∷ 32 ∷ 32 ∷ []
 
--- Byte i of H.INDF is the label's.
-unfoldable pub labelAt : List ℕ → ℕ → Bool
-labelAt b i = eqb (byteAt b (496 + i)) (byteAt label i)
+-- Byte i of H.INDF is as it must be.
+unfoldable pub indfAt : List ℕ → ℕ → Bool
+indfAt b i = eqb (byteAt b (496 + i)) (byteAt indf i)
 
 -- 01, Home block: "has both checksums right, H.IBSZ, H.IBLB, H.FMAX not 0, H.SBCL 1, H.VLEV 257 or 258, H.INDF `DECFILE11A` and two spaces".
 -- 01, Checksum: "The sum of the first 255 words, kept to 16 bits, equals word 255"; "H.CHK1, byte 58, is the same sum over words 0 to 28."
@@ -44,7 +44,7 @@ isHome b =
     && not (eqb (hFmax b) 0)
     && eqb (hSbcl b) 1
     && (eqb (hVlev b) 257 || eqb (hVlev b) 258)
-    && below 12 (labelAt b)
+    && below 12 (indfAt b)
 
 -- 01, The work and its edge: "a lent image of 512·N bytes". N, the number of whole blocks of an image.
 unfoldable pub blocks : List ℕ → ℕ

@@ -10,10 +10,10 @@ ghost use mathlib.Core.Bool.{not, _&&_, _||_};
 ghost use lib.Dec.{eqb};
 ghost use lib.ListN.{length};
 ghost use Rattle.lists.specs.First.{below};
-ghost use Rattle.home.specs.Home.{hIbsz, hIblb, hFmax, hSbcl, hVlev, labelAt, isHome, position, homeIndex};
+ghost use Rattle.home.specs.Home.{hIbsz, hIblb, hFmax, hSbcl, hVlev, indfAt, isHome, position, homeIndex};
 
 // H.INDF of a home block.
-const LABEL: [u8; 12] = *b"DECFILE11A  ";
+const INDF: [u8; 12] = *b"DECFILE11A  ";
 
 // H.IBSZ.
 pub fn h_ibsz(b: &[u8]) -> u16
@@ -41,15 +41,15 @@ pub fn h_fmax(b: &[u8]) -> u16
     word_at(b, 6)
 }
 
-// Whether H.INDF is the label. All of it is compared, which the compiler does at once.
-fn is_labelled(b: &[u8]) -> bool
+// Whether H.INDF is that of a home block. All of it is compared, which the compiler does at once.
+fn has_indf(b: &[u8]) -> bool
     requires { ⌜ length (now b) ≡ 512 ⌝ }
-    ensures { λ r. ⌜ r ≡ below 12 (labelAt (now (b .entry))) ⌝ }
+    ensures { λ r. ⌜ r ≡ below 12 (indfAt (now (b .entry))) ⌝ }
 {
     let mut same = true;
     let mut i: usize = 0;
     while i < 12 {
-        same = (b[496 + i] == LABEL[i]) & same;
+        same = (b[496 + i] == INDF[i]) & same;
         i += 1;
     }
     same
@@ -95,8 +95,8 @@ pub fn is_home(b: &[u8]) -> bool
     if !fields {
         return false;
     }
-    let labelled = is_labelled(b);
-    if !labelled {
+    let indf = has_indf(b);
+    if !indf {
         return false;
     }
     let chk1 = checksum(b, 29);

@@ -5,7 +5,6 @@ use mathlib.Core.List.{List, [], _∷_, _++_, append-assoc}
 use Prim.Native.Nat.{ℕ, _+_, _*_, _-_, _≤_, _<_}
 use native.Mathlib.Omega.{arith}
 use borrow.Author.Tests.{eq-eqb, ne-eqb, le-leb, lt-leb}
-use lib.Dec.{eqb}
 use lib.ListN.{length, getD, take, set, length-append}
 use lib.Seq.{getD-take}
 use Rattle.image.specs.Blocks.{block}
@@ -16,7 +15,7 @@ use Rattle.home.specs.Home.{blocks}
 use Rattle.volume.specs.Volume.{ibsz, iblb, inUse, partSlot, partSlots, follows, leadsOn, placesFrom, places, indexEnds, padded}
 use Rattle.pointers.specs.Pointers.{flat}
 use Rattle.volume.specs.Opening.{FirstFit, Walked}
-use Rattle.volume.proofs.IndexLaws.{Lies, lies-fits, AllLie, lie-none, lie-last, Inside, mapped-inside, mapped-none, mapped-last, leads-none, leads-lies, from-end, from-more, from-last, ends-last, padded-take, padded-length, padded-more, used-low}
+use Rattle.volume.proofs.IndexLaws.{Lies, lies-fits, AllLie, lie-none, lie-last, Inside, mapped-inside, mapped-last, leads-none, leads-lies, from-end, from-more, from-last, ends-last, padded-take, padded-length, padded-more}
 
 -- A header leads on to what lies at a place of the part, and to nothing past it.
 module _ (image part h : List ℕ) (i : ℕ) (place : i ≡ 1 + ibsz image + mEfnu h) where

@@ -4,7 +4,6 @@ use answer::refusal::number_of;
 use answer::refusal::place_of;
 use libc::STDIN_FILENO;
 use libc::STDOUT_FILENO;
-use verdict::Counts;
 use verdict::JudgeAnswer;
 use verdict::judge;
 

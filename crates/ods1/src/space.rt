@@ -4,10 +4,10 @@ use answer::types::Lbn;
 use answer::types::Vbn;
 use answer_words::put_run;
 use extents::extent;
-use free::free_run;
+use free_run::free_run;
 ghost use mathlib.Core.Path.{_≡_};
 ghost use Rattle.extents.specs.Extents.{extentAnswer};
-ghost use Rattle.free.specs.Free.{freeRunAnswer};
+ghost use Rattle.free_run.specs.Free.{freeRunAnswer};
 ghost use Rattle.answer_words.specs.Words.{runWords};
 ghost use Rattle.ods1.specs.Arguments.{idOf};
 

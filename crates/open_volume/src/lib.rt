@@ -245,10 +245,10 @@ pub fn open_volume(image: &[u8]) -> LbnAnswer
     let mut places = [0u32; 256];
     let o = open(image, &mut places);
     let v = o.volume;
-    let home = v.home;
+    let lbn = v.home;
     let result = o.outcome;
     match result {
-        Outcome::Passed => LbnAnswer::Done(home),
+        Outcome::Passed => LbnAnswer::Done(lbn),
         Outcome::Refused(r) => LbnAnswer::Refused(r),
     }
 }

@@ -23,7 +23,7 @@ use Rattle.parse.specs.declared.TextToNameAnswer.{TextToNameAnswer}
 use Rattle.parse.specs.declared.TextToNameAnswer.the-variants.{Done, Refused}
 use Rattle.text.specs.Text.{decimal, textOf, nameText}
 use Rattle.parse.specs.Parse.{span, Part, partWord, valueTo, isVersion, nameOf, withVersion, withType, textToNameAnswer}
-use Rattle.round_trip.specs.RoundTrip.{Accepted, RoundTrip}
+use Rattle.round_trip.specs.RoundTrip.{AcceptedText, RoundTrip}
 use Rattle.text.proofs.TextLaws.{name-text-most}
 use Rattle.parse.proofs.ParseLaws.{span-most, span-part, span-is}
 use Rattle.round_trip.proofs.DigitLaws.{Version, version-is, decimal-version, decimal-value}
@@ -171,7 +171,7 @@ unfolding nameText textOf nameOf
 accepted-text p y d part typ few small v =
     rw (name-codes p y d part, kept-from p part 0 9 few, type-codes y typ, kept-from y typ 0 3 small, v .same)
 
-forth : (t : List ℕ) (n : Name) → textToNameAnswer t ≡ Done n → Accepted t n
+forth : (t : List ℕ) (n : Name) → textToNameAnswer t ≡ Done n → AcceptedText t n
 unfolding textToNameAnswer withType withVersion
 forth t n e =
     let s = drop (span t + 1) t in

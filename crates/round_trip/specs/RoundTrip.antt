@@ -14,7 +14,7 @@ use Rattle.text.specs.Text.{nameText}
 use Rattle.parse.specs.Parse.{textToNameAnswer}
 
 -- 01, Names and directories: "Text: `NAME.TYP;V`" of "a proper name". What is known of an accepted text: its words are a proper name, and it is their text.
-pub record Accepted (t : List ℕ) (n : Name) : Type 0 where
+pub record AcceptedText (t : List ℕ) (n : Name) : Type 0 where
   pub is-proper : proper n ≡ true
   pub is-text : nameText n ≡ t
 
@@ -29,6 +29,6 @@ pub record RoundTrip : Type 0 where
   -- the text of a proper name converts back to its words
   pub back : (n : Name) → proper n ≡ true → textToNameAnswer (nameText n) ≡ Done n
   -- every accepted text is the text of its words
-  pub forth : (t : List ℕ) (n : Name) → textToNameAnswer t ≡ Done n → Accepted t n
+  pub forth : (t : List ℕ) (n : Name) → textToNameAnswer t ≡ Done n → AcceptedText t n
   -- 01, Names and directories: "room for 19 bytes"
   pub room : (n : Name) → proper n ≡ true → length (nameText n) ≤ 19

@@ -1,7 +1,7 @@
 -- The slots of file numbers, walked in order; and what the headers in use give, one after the other.
 use mathlib.Core.Path.{_≡_}
 use mathlib.Core.Bool.{cond}
-use mathlib.Core.List.{List, [], _∷_, _++_}
+use mathlib.Core.List.{List, [], _++_}
 use Prim.Native.Nat.{ℕ, zero, suc, _+_, _≤_, _<_}
 use lib.ListN.{length, getD, take}
 use Rattle.image.specs.Blocks.{block}

@@ -11,7 +11,7 @@ use Rattle.answer.specs.declared.refusal.Refusal.the-variants as refusal
 use Rattle.home.specs.Home.{blocks}
 use Rattle.volume.specs.Volume.{mapBlocks, storageMap, mapBits}
 use Rattle.lists.specs.Counts.{oneIf, count}
-use Rattle.covers.specs.Covered.{covered, wrongBit, mapPlace, map}
+use Rattle.covers.specs.Covered.{covered, wrongBit, mapPlace, badMap}
 use Rattle.sound.specs.Sound.{Mapped}
 use Rattle.sound.proofs.Tests.{Tests, Spares, Judges, t-eq, t-lt, t-and, t-map, s-not, j-each, j-map}
 use Rattle.sound.proofs.CoverLaws.{covered-has, covered-find}
@@ -64,8 +64,8 @@ module _ (image : List ℕ) where
   bit-spared j =
       s-not (bit-is j (ltb j (blocks image) && eqb (count j (covered image)) 0) (t-and (t-lt j (blocks image)) (t-eq (count j (covered image)) 0)))
 
-  pub map-judges : Judges (map image) (MapSound image)
-  unfolding map mapPlace
+  pub map-judges : Judges (badMap image) (MapSound image)
+  unfolding badMap mapPlace
   map-judges =
       j-map
       (λ r. record {

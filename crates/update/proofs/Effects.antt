@@ -52,7 +52,7 @@ abbrev pub Stays : List ℕ → List ℕ → Type 0
 Stays image image′ = (x : ℕ) → In x (chainOf image 1) → inUse image′ x ≡ inUse image x
 
 -- A file keeps its headers, its blocks and their bytes.
-pub record Kept (image image′ : List ℕ) (f : ℕ) : Type 0 where
+pub record KeptFile (image image′ : List ℕ) (f : ℕ) : Type 0 where
   pub headers : (x : ℕ) → In x (chainOf image f) → header image′ x ≡ header image x
   pub chain : chainOf image′ f ≡ chainOf image f
   pub blocks : fileBlocks image′ f ≡ fileBlocks image f

@@ -31,7 +31,7 @@ use Rattle.sound.proofs.MemberLaws.{in-here, in-tail}
 use Rattle.sound.proofs.ChainLaws.{known-file, member-used}
 use Rattle.header_edit.specs.Extended.{extendedHeader}
 use Rattle.header_edit.proofs.ExtendedLaws.{Extends, extends-is}
-use Rattle.runs.specs.Runs.{isFree, isRun, starts, lowestStart}
+use Rattle.lowest_run.specs.Runs.{isFree, isRun, starts, lowestStart}
 use Rattle.image.specs.Stores.{putMapBits}
 use Rattle.update.specs.Writes.{takenBit}
 use Rattle.update.specs.Extend.{isCount, hasRoom, runStart, hasRun, withBlocks}

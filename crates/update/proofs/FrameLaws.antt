@@ -25,7 +25,7 @@ use Rattle.sound.specs.Sound.{BlockOf}
 use Rattle.sound.specs.Claims.{IsFile}
 use Rattle.sound.proofs.ChainLaws.{known-file, chain-next, member-used}
 use Rattle.sound.proofs.ApartLaws.{file-different, file-storage}
-use Rattle.update.proofs.Effects.{Clear, Usable, Written, Stays, Kept, Fixed}
+use Rattle.update.proofs.Effects.{Clear, Usable, Written, Stays, KeptFile, Fixed}
 use Rattle.update.proofs.ChainSame.{chain-same, flat-same}
 
 -- No number.
@@ -284,7 +284,7 @@ module _ {image image′ : List ℕ} {S : ℕ → Type 0} (w : Written image ima
         header2 = known-same 2 (omega arith) (omega arith)
 
     -- A file none of whose headers is written keeps its chain, its blocks and their bytes.
-    pub kept : (f : ℕ) → 3 ≤ f → IsFile image f → ((x : ℕ) → In x (chainOf image f) → S x → ⊥) → Kept image image′ f
+    pub kept : (f : ℕ) → 3 ≤ f → IsFile image f → ((x : ℕ) → In x (chainOf image f) → S x → ⊥) → KeptFile image image′ f
     unfolding chainOf fileBlocks
     kept f big file out = record {
       headers = same;
@@ -310,7 +310,7 @@ module _ {image image′ : List ℕ} {S : ℕ → Type 0} (w : Written image ima
       passed = λ i h. passed i (rw homeIndex-same at h);
     }
       where
-        three : Kept image image′ 3
+        three : KeptFile image image′ 3
         three = kept 3 (omega arith) (known-file image (g .safe) 3 (omega arith) (omega arith)) out
 
         passed : (i : ℕ) → i < homeIndex image → BlockOf image′ 3 (position i)

@@ -16,7 +16,7 @@ use Rattle.header.specs.Flags.{isFixed}
 use Rattle.header_edit.specs.Extended.{extendedHeader}
 use Rattle.home.specs.Home.{blocks}
 use Rattle.volume.specs.Volume.{slot, header, mapBlocks, base, storageMap}
-use Rattle.runs.specs.Runs.{starts, lowestStart}
+use Rattle.lowest_run.specs.Runs.{starts, lowestStart}
 use Rattle.chains.specs.Chains.{lastNumber}
 use Rattle.open_file.specs.Opening.{openFile}
 use Rattle.verdict.specs.Verdict.{verdict, afterwards}

@@ -16,7 +16,7 @@ use Rattle.volume.specs.Opening.{openVolume}
 use Rattle.marks.specs.Marks.{tallied}
 use Rattle.files.specs.Files.{files}
 use Rattle.links.specs.Links.{links}
-use Rattle.covers.specs.Covered.{covered, twice, map}
+use Rattle.covers.specs.Covered.{covered, twice, badMap}
 use Rattle.bad_home.specs.Homes.{badHome}
 use Rattle.verdict.specs.Verdict.{roomy, ready, verdict, afterwards, blockMarks}
 
@@ -29,9 +29,9 @@ module _ (image : List ℕ) (b h : ℕ) where
       (leb-true (blocks image) b (r .0), leb-true (fmax image) h (r .1))
 
   module _ (p : verdict image b h ≡ outcome.Passed) where
-    parts : (ready image b h ≡ outcome.Passed) × ((files image then links image then twice image then badHome image then map image) ≡ outcome.Passed)
+    parts : (ready image b h ≡ outcome.Passed) × ((files image then links image then twice image then badHome image then badMap image) ≡ outcome.Passed)
     unfolding verdict
-    parts = passed-then (ready image b h) (files image then links image then twice image then badHome image then map image) p
+    parts = passed-then (ready image b h) (files image then links image then twice image then badHome image then badMap image) p
 
     opening : (openVolume image ≡ outcome.Passed) × (unless (roomy image b h) refusal.Work ≡ outcome.Passed)
     unfolding ready
@@ -44,12 +44,12 @@ module _ (image : List ℕ) (b h : ℕ) where
     passed-room = roomy-is (passed-last (roomy image b h) refusal.Work (opening .1))
 
     pub passed-files : files image ≡ outcome.Passed
-    passed-files = passed-then (files image) (links image then twice image then badHome image then map image) (parts .1) .0
+    passed-files = passed-then (files image) (links image then twice image then badHome image then badMap image) (parts .1) .0
 
     pub passed-links : links image ≡ outcome.Passed
     passed-links =
-        passed-then (links image) (twice image then badHome image then map image)
-        (passed-then (files image) (links image then twice image then badHome image then map image) (parts .1) .1) .0
+        passed-then (links image) (twice image then badHome image then badMap image)
+        (passed-then (files image) (links image then twice image then badHome image then badMap image) (parts .1) .1) .0
 
 -- The block marks are reached.
 pub passed-marks : (image area headers : List ℕ) → verdict image (length area) (length headers) ≡ outcome.Passed

@@ -16,7 +16,7 @@ use Rattle.marks.specs.Marks.{tallied}
 use Rattle.image.specs.Bits.{isSet}
 use Rattle.files.specs.Files.{files}
 use Rattle.links.specs.Links.{linked, links}
-use Rattle.covers.specs.Covered.{covered, twice, map}
+use Rattle.covers.specs.Covered.{covered, twice, badMap}
 use Rattle.bad_home.specs.Homes.{badHome}
 use Rattle.verdict.specs.declared.Counts.{Counts}
 use Rattle.verdict.specs.declared.JudgeAnswer.{JudgeAnswer}
@@ -32,7 +32,7 @@ ready image b h = openVolume image then unless (roomy image b h) refusal.Work
 
 -- 01, The verdict: "Judged in this order".
 unfoldable pub verdict : List ℕ → ℕ → ℕ → Outcome
-verdict image b h = ready image b h then files image then links image then twice image then badHome image then map image
+verdict image b h = ready image b h then files image then links image then twice image then badHome image then badMap image
 
 -- A work area after a row of tests: new where they are passed, as it was where they are not.
 unfoldable pub afterwards : Outcome → List ℕ → List ℕ → List ℕ

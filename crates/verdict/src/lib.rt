@@ -2,8 +2,8 @@
 use answer::outcome::Outcome;
 use answer::refusal::Refusal;
 use bad_home::bad_home;
+use covers::bad_map;
 use covers::cover;
-use covers::map;
 use covers::twice;
 use files::files;
 use image::blocks::region;
@@ -29,7 +29,7 @@ ghost use Rattle.volume.specs.Opening.{Open, Recorded};
 ghost use Rattle.marks.specs.Marks.{tallied};
 ghost use Rattle.files.specs.Files.{files};
 ghost use Rattle.links.specs.Links.{linked, links};
-ghost use Rattle.covers.specs.Covered.{covered, twice, map};
+ghost use Rattle.covers.specs.Covered.{covered, twice, badMap};
 ghost use Rattle.bad_home.specs.Homes.{badHome};
 ghost use Rattle.verdict.specs.Verdict.{verdict, afterwards, headerMarks, blockMarks, countsOf, judgeAnswer};
 
@@ -60,7 +60,7 @@ pub struct JudgedVolume {
 // TWICE, BADHOME and MAP, once FILES and LINKS are passed; and the block marks.
 fn judge_blocks(image: &[u8], v: Volume, places: &Places, area: &mut [u8]) -> Outcome
     requires { ⌜ Recorded (now image) v (now places) × (files (now image) ≡ Passed) × (links (now image) ≡ Passed) × (blocks (now image) ≤ length (now area)) ⌝ }
-    ensures { λ r. ⌜ (r ≡ (twice (now (image .entry)) then badHome (now (image .entry)) then map (now (image .entry))))
+    ensures { λ r. ⌜ (r ≡ (twice (now (image .entry)) then badHome (now (image .entry)) then badMap (now (image .entry))))
         × (now (area .exit) ≡ tallied (covered (now (image .entry))) 0 (blocks (now (image .entry))) (now (area .entry))) ⌝ }
 {
     cover(image, v, places, area);
@@ -69,7 +69,7 @@ fn judge_blocks(image: &[u8], v: Volume, places: &Places, area: &mut [u8]) -> Ou
         Outcome::Passed => {
             let passed = bad_home(image, v, places, area);
             match passed {
-                Outcome::Passed => map(image, v, area),
+                Outcome::Passed => bad_map(image, v, area),
                 Outcome::Refused(r) => Outcome::Refused(r),
             }
         }
@@ -86,7 +86,7 @@ fn judge_opened(
     headers: &mut [u8],
 ) -> Outcome
     requires { ⌜ Recorded (now image) v (now places) × (blocks (now image) ≤ length (now area)) × (fmax (now image) ≤ length (now headers)) ⌝ }
-    ensures { λ r. ⌜ (r ≡ (files (now (image .entry)) then links (now (image .entry)) then twice (now (image .entry)) then badHome (now (image .entry)) then map (now (image .entry))))
+    ensures { λ r. ⌜ (r ≡ (files (now (image .entry)) then links (now (image .entry)) then twice (now (image .entry)) then badHome (now (image .entry)) then badMap (now (image .entry))))
         × (now (area .exit) ≡ afterwards (files (now (image .entry)) then links (now (image .entry))) (now (area .entry)) (tallied (covered (now (image .entry))) 0 (blocks (now (image .entry))) (now (area .entry))))
         × (now (headers .exit) ≡ afterwards (files (now (image .entry))) (now (headers .entry)) (tallied (linked (now (image .entry))) 1 (fmax (now (image .entry))) (now (headers .entry)))) ⌝ }
 {

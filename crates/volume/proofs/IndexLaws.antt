@@ -6,16 +6,15 @@ use Prim.Native.Nat.{ℕ, zero, suc, _+_, _*_, _-_, _≤_, _<_}
 use native.Mathlib.Numerals.{add-one}
 use native.Mathlib.Decide.{decLt}
 use native.Mathlib.Omega.{arith}
-use borrow.Author.Tests.{eqb-true, leb-true, eq-eqb, lt-leb, le-leb}
+use borrow.Author.Tests.{eqb-true, leb-true, lt-leb}
 use lib.Dec.{eqb, leb}
-use lib.ListN.{length, getD, drop, take, set, length-append, length-take, List·getD-append, List·getD-eq-default, drop-of-length-le, length-replicate, take-append-drop}
+use lib.ListN.{length, getD, drop, take, set, length-append, List·getD-append, drop-of-length-le, length-replicate, take-append-drop}
 use lib.Seq.{getD-append-add, drop-cons, set-at, take-at, take-suc, getD-at}
 use Rattle.image.specs.Words.{Bytes}
 use Rattle.image.specs.Blocks.{block}
 use Rattle.image.specs.Bits.{bitAt}
 use Rattle.image.specs.Stores.{zeros}
 use Rattle.image.proofs.BlockLaws.{block-length, block-bytes}
-use Rattle.answer.specs.declared.types.Lbn.{Lbn}
 use Rattle.header.specs.Fields.{hFseq, mapArea, segment, mEfnu, mEfsq, mUse}
 use Rattle.pointers.specs.Pointers.{pointerCount, runs, pointersAt, pointers, Fits, blocksOf, placeIn}
 use Rattle.pointers.specs.declared.Place.{Place}

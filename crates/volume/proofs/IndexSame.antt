@@ -13,7 +13,7 @@ use Rattle.pointers.specs.Pointers.{blocksOf}
 use Rattle.home.specs.Home.{blocks}
 use Rattle.volume.specs.Volume.{ibsz, iblb, inUse, partSlot, leadsOn, placesFrom, places, index, indexEnds}
 use Rattle.pointers.specs.Pointers.{flat}
-use Rattle.volume.proofs.IndexLaws.{mapped-none, mapped-more, from-first, from-end, from-more, from-none, from-last, leads, leads-none, used-low}
+use Rattle.volume.proofs.IndexLaws.{mapped-none, mapped-more, from-first, from-end, from-more, from-last, leads, leads-none, used-low}
 
 module _ (image image′ : List ℕ) (n-same : blocks image′ ≡ blocks image) (m-same : ibsz image′ ≡ ibsz image) where
   -- Each of these headers is kept, and the number that it leads on to stays in use.

@@ -15,7 +15,6 @@ use Rattle.lists.specs.First.{below}
 use Rattle.lists.proofs.BelowLaws.{below-at, below-all}
 use Rattle.image.proofs.WordLaws.{word-below}
 use Rattle.image.proofs.BlockLaws.{region-length, block-length, block-bytes}
-use Rattle.answer.specs.declared.types.Lbn.{Lbn}
 use Rattle.answer.specs.declared.refusal.Refusal.the-variants as refusal
 use Rattle.answer.specs.declared.outcome.Outcome.the-variants.{Passed}
 use Rattle.answer.proofs.OutcomeLaws.{passed-last, passed-first}
@@ -31,7 +30,7 @@ use Rattle.volume.specs.Volume.{ibsz, iblb, fmax, indexHeader, places, i
 use Rattle.volume.specs.declared.Volume.{Volume}
 use Rattle.volume.specs.declared.Slot.{Slot}
 use Rattle.volume.specs.declared.Slot.the-variants.{At, Missing}
-use Rattle.volume.specs.Opening.{sized, homed, geometry, heads, alone, indexLbn, indexAt, indexMapped, indexed, storageMapped, stored, openVolume, Mapped, FirstFit, Recorded, Laid}
+use Rattle.volume.specs.Opening.{sized, homed, geometry, heads, alone, indexLbn, indexAt, indexMapped, indexed, storageMapped, stored, openVolume, HasIndexMap, FirstFit, Recorded, Laid}
 use Rattle.volume.specs.Volume.{mapBlocks}
 use Rattle.volume.proofs.IndexLaws.{AllLie, lies-fits, mapped-inside, places-lie, places-least, places-most, further, index-split, index-most, padded-take, padded-length}
 use Rattle.volume.proofs.OpeningLaws.{open-passed, three, sized-is, geometry-is, home-inside, indexLbn-boot, indexLbn-home, indexLbn-row, storage-long, storage-row}
@@ -229,7 +228,7 @@ module _ (image : List ℕ) (v : Volume) (l : Laid image v) where
   unfolding indexed
   laid-indexed = refl
 
-  pub laid-mapped : sized image ≡ true → geometry image ≡ true → Mapped image
+  pub laid-mapped : sized image ≡ true → geometry image ≡ true → HasIndexMap image
   unfolding mapBlocks
   laid-mapped s g = (omega (arith, geometry-is image g), omega (arith, geometry-is image g, sized-is image s))
 
@@ -310,7 +309,7 @@ module _ {image : List ℕ} (o : Opens image) where
   unfolding storageMap
   storageMap-length = region-length image (base image) (mapBlocks (blocks image)) (omega (arith, o .size, base-fits))
 
-  pub opens-mapped : Mapped image
+  pub opens-mapped : HasIndexMap image
   unfolding mapBlocks
   opens-mapped = (omega (arith, o .maps), omega (arith, o .size, o .fits))
 

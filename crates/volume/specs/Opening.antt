@@ -80,8 +80,8 @@ openVolume image =
     then unless (stored image) refusal.Storage
 
 -- The index map has a bit for every number, and lies in the image.
-abbrev pub Mapped : List ℕ → Type 0
-Mapped image = (fmax image ≤ 4096 * ibsz image) × (512 * (iblb image + ibsz image) ≤ length image)
+abbrev pub HasIndexMap : List ℕ → Type 0
+HasIndexMap image = (fmax image ≤ 4096 * ibsz image) × (512 * (iblb image + ibsz image) ≤ length image)
 
 -- The headers at the first k of these LBNs have their pointers in them.
 abbrev pub FirstFit : List ℕ → List ℕ → ℕ → Type 0

@@ -22,7 +22,7 @@ ghost use Rattle.pointers.specs.Pointers.{placeIn};
 ghost use Rattle.home.specs.Home.{blocks};
 ghost use Rattle.volume.specs.Volume.{follows, index, ibsz, iblb, fmax, slotVbn, slot, hasSlot, slotOf, inUse, mapBlocks};
 ghost use Rattle.pointers.specs.Pointers.{flat};
-ghost use Rattle.volume.specs.Opening.{FirstFit, Recorded, Mapped, Open};
+ghost use Rattle.volume.specs.Opening.{FirstFit, Recorded, HasIndexMap, Open};
 
 // Whether `next` is the header that header h links to by M.EFNU, which is n: its sequence, a segment number one higher, and whole.
 pub fn is_next(h: &[u8], next: &[u8], blocks: u32, n: FileNumber) -> bool
@@ -125,7 +125,7 @@ pub fn map_blocks(blocks: u32) -> u32
 
 // Whether a file number is in use, by H.FMAX, H.IBLB and H.IBSZ alone.
 pub fn is_marked(image: &[u8], most: u32, from: Lbn, m: u32, n: FileNumber) -> bool
-    requires { ⌜ (most ≡ fmax (now image)) × (from .0 ≡ iblb (now image)) × (m ≡ ibsz (now image)) × Mapped (now image) ⌝ }
+    requires { ⌜ (most ≡ fmax (now image)) × (from .0 ≡ iblb (now image)) × (m ≡ ibsz (now image)) × HasIndexMap (now image) ⌝ }
     ensures { λ r. ⌜ r ≡ inUse (now (image .entry)) (n .0) ⌝ }
 {
     let number = n.0;

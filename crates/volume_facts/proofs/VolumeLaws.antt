@@ -30,18 +30,18 @@ module _ (image : List ℕ) where
   slot-count = refl
 
   -- The geometry, part by part.
-  pub geometry-is : (g : Geometry) → g .blocks ≡ blocks image → g .home ≡ home image → g .ibsz ≡ ibsz image → g .iblb ≡ iblb image → g .fmax ≡ fmax image
-      → g .slots ≡ slots image → g .map ≡ base image → g .«map_blocks» ≡ mapBlocks (blocks image) → g .vlev ≡ hVlev (block image (home image))
+  pub geometry-is : (g : Geometry) → g .blocks ≡ blocks image → g .home .0 ≡ home image → g .ibsz ≡ ibsz image → g .iblb .0 ≡ iblb image → g .fmax ≡ fmax image
+      → g .slots ≡ slots image → g .map .0 ≡ base image → g .«map_blocks» ≡ mapBlocks (blocks image) → g .vlev ≡ hVlev (block image (home image))
       → g .«index_headers» ≡ length (places image) → g ≡ geometryOf image
   unfolding geometryOf
   geometry-is g blocks home ibsz iblb fmax slots map bits vlev headers = λ i. record {
     blocks = blocks i;
-    home = home i;
+    home = record { 0 = home i };
     ibsz = ibsz i;
-    iblb = iblb i;
+    iblb = record { 0 = iblb i };
     fmax = fmax i;
     slots = slots i;
-    map = map i;
+    map = record { 0 = map i };
     «map_blocks» = bits i;
     vlev = vlev i;
     «index_headers» = headers i;

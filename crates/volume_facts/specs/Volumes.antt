@@ -22,12 +22,12 @@ use Rattle.volume_facts.specs.declared.types.LabelAnswer.the-variants as
 unfoldable pub geometryOf : List ℕ → Geometry
 geometryOf image = record {
   blocks = blocks image;
-  home = home image;
+  home = record { 0 = home image };
   ibsz = ibsz image;
-  iblb = iblb image;
+  iblb = record { 0 = iblb image };
   fmax = fmax image;
   slots = slots image;
-  map = base image;
+  map = record { 0 = base image };
   «map_blocks» = mapBlocks (blocks image);
   vlev = hVlev (block image (home image));
   «index_headers» = length (places image);

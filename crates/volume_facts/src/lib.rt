@@ -7,7 +7,6 @@ use answer::outcome::Outcome;
 use image::blocks::block;
 use image::words::word_at;
 use open_volume::open;
-use pointers::block_count;
 use volume::Places;
 use volume::Volume;
 use volume::index_blocks;
@@ -25,18 +24,25 @@ fn geometry_on(image: &[u8], v: Volume, places: &Places) -> Geometry
     ensures { λ r. ⌜ r ≡ geometryOf (now (image .entry)) ⌝ }
 {
     let mapped = index_blocks(image, v, places);
-    let vlev = word_at(block(image, v.home), 12);
+    let home = v.home;
+    let iblb = v.iblb;
+    let map = v.base;
+    let vlev = word_at(block(image, home), 12);
+    // Boot block, home and index map come before the slots.
+    let first = 2 + v.ibsz;
+    let slots = mapped - first;
+    let index_headers = v.segments as u32;
     Geometry {
         blocks: v.blocks,
-        home: v.home.0,
+        home,
         ibsz: v.ibsz,
-        iblb: v.iblb.0,
+        iblb,
         fmax: v.fmax,
-        slots: mapped - (2 + v.ibsz),
-        map: v.base.0,
+        slots,
+        map,
         map_blocks: map_blocks(v.blocks),
         vlev,
-        index_headers: v.segments as u32,
+        index_headers,
     }
 }
 

@@ -1,22 +1,23 @@
 // What a volume says of itself, as types: where its parts lie, and its label.
 use answer::refusal::Refusal;
+use answer::types::Lbn;
 
 // Where the parts of a volume lie.
 pub struct Geometry {
     // N, the number of blocks.
     pub blocks: u32,
-    // The LBN of the home.
-    pub home: u32,
+    // Where the home lies.
+    pub home: Lbn,
     // H.IBSZ.
     pub ibsz: u32,
     // H.IBLB.
-    pub iblb: u32,
+    pub iblb: Lbn,
     // H.FMAX.
     pub fmax: u32,
     // How many file numbers have a slot.
     pub slots: u32,
-    // The LBN of the storage map's bits.
-    pub map: u32,
+    // Where the storage map's bits begin.
+    pub map: Lbn,
     // In how many blocks they lie.
     pub map_blocks: u32,
     // H.VLEV.

@@ -13,12 +13,12 @@ abbrev pub geometryWords : GeometryAnswer → List ℕ
 geometryWords (geometries.Done g) =
     doneWords (
     g .blocks
-    ∷ g .home
+    ∷ g .home .0
     ∷ g .ibsz
-    ∷ g .iblb
+    ∷ g .iblb .0
     ∷ g .fmax
     ∷ g .slots
-    ∷ g .map
+    ∷ g .map .0
     ∷ g .«map_blocks»
     ∷ g .vlev
     ∷ g .«index_headers»

@@ -11,10 +11,9 @@ use pointers::pointer_lbn;
 use pointers::pointer_number;
 ghost use mathlib.Core.Path.{_≡_};
 ghost use mathlib.Core.Bool.{true};
-ghost use Prim.Native.Nat.{_+_, _≤_, _<_};
+ghost use Prim.Native.Nat.{_+_, _<_};
 ghost use lib.ListN.{length};
 ghost use Rattle.lists.specs.First.{below};
-ghost use Rattle.header.specs.Fields.{hMpof, mMax};
 ghost use Rattle.pointers.specs.Pointers.{pointers, Fits};
 ghost use Rattle.whole.specs.Whole.{endsInside, linkTests, mapTests, firstUnmet, fault};
 

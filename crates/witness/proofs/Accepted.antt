@@ -3,9 +3,9 @@ use native.Mathlib.Omega.{arith}
 use Rattle.sound.proofs.ExactLaws.{exact, verdict-judges}
 use Rattle.volume_v.specs.VolumeV.{volumeV}
 use Rattle.volume_v.proofs.Judged.{size, numbers, computed}
-use Rattle.witness.specs.Witness.{Accepted}
+use Rattle.witness.specs.Witness.{AcceptedV}
 
-pub accepted : Accepted
+pub accepted : AcceptedV
 accepted =
     let both = verdict-judges volumeV 100 16 (omega (arith, size)) (omega (arith, numbers)) .yields computed in
     record {

@@ -12,7 +12,7 @@ use Rattle.sound.specs.Claims.{isDone}
 use Rattle.volume_v.specs.VolumeV.{volumeV}
 
 -- 01, Volume V: "N 100, home 1, H.FMAX 16"; "answer 0 DONE place 0".
-pub record Accepted : Type 0 where
+pub record AcceptedV : Type 0 where
   pub opens : openVolume volumeV ≡ Passed
   pub sound : Sound volumeV
   -- With work areas of N and H.FMAX bytes or more, whatever they hold.

@@ -1,5 +1,4 @@
 -- A good link names a number in use with a slot, whose header has a segment number one higher.
-use borrow.Author.Needs.{needs}
 use mathlib.Core.Path.{_≡_, ap, _∙_}
 use native.Mathlib.Omega.{arith}
 use denote.Ref.{now}

@@ -12,7 +12,7 @@ use Rattle.home.specs.Home.{blocks}
 use Rattle.volume.specs.Volume.{mapBlocks, storageMap}
 use Rattle.volume.specs.Opening.{Laid}
 use Rattle.volume.proofs.VolumeLaws.{Opens, opens, says, says-base, storageMap-length}
-use Rattle.runs.specs.Runs.{startOf}
+use Rattle.lowest_run.specs.Runs.{startOf}
 use Rattle.update.specs.Extend.{hasRoom}
 use Rattle.extend_plan.proofs.TestLaws.{begins, rooms-full, rooms-run, rooms-passed, planned-to, planned-refused}
 use Rattle.extend_plan.proofs.find_run.Statement.{statement}

@@ -19,7 +19,7 @@ returns-2 : tie.Need-returns-2
 returns-2 c =
     let l = c .before in
     let f = l .before .before in
-    rw (isHome-by (now (f .before .before .args .b)), ← l .is-labelled .ensures, not-true (l .is-labelled .result) (c .if2 .taken), and-false)
+    rw (isHome-by (now (f .before .before .args .b)), ← l .has-indf .ensures, not-true (l .has-indf .result) (c .if2 .taken), and-false)
 
 returns-3 : tie.Need-returns-3
 returns-3 c =
@@ -38,7 +38,7 @@ returns-5 c =
     let l = c .before .before .before .before .before .before .before in
     let f = l .before .before in
     let b = now (f .before .before .args .b) in
-    rw (isHome-by b, ← f .has-home-fields .ensures, not-false (f .has-home-fields .result) (l .before .if1 .left), ← l .is-labelled .ensures, not-false (l .is-labelled .result) (c .before .before .before .before .before .before .if2 .left), eq-eqb (checksum b 29) (wordAt b 58) (omega arith), eq-eqb (checksum b 255) (wordAt b 510) (omega arith))
+    rw (isHome-by b, ← f .has-home-fields .ensures, not-false (f .has-home-fields .result) (l .before .if1 .left), ← l .has-indf .ensures, not-false (l .has-indf .result) (c .before .before .before .before .before .before .if2 .left), eq-eqb (checksum b 29) (wordAt b 58) (omega arith), eq-eqb (checksum b 255) (wordAt b 510) (omega arith))
 
 pub is-home-spec : {M : Type 1} → statement M
 is-home-spec =

@@ -1,7 +1,6 @@
 -- Header 1 without a link is the only one; else the walk tells.
 use borrow.Author.Needs.{needs}
 use native.Mathlib.Omega.{arith}
-use mathlib.Core.Path.{_≡_}
 use Prim.Native.Nat.{_+_, _≤_}
 use denote.Ref.{now}
 use Rattle.home.specs.Home.{blocks}

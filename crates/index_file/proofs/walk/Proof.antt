@@ -1,10 +1,9 @@
 -- Each turn is at a header of the index file, with the places of those before it.
 use borrow.Author.Needs.{needs}
 use native.Mathlib.Omega.{arith}
-use mathlib.Core.Path.{_≡_, refl, sym, ap, _∙_}
-use mathlib.Core.Bool.{true, false}
+use mathlib.Core.Path.{_≡_, sym, ap, _∙_}
 use mathlib.Core.List.{List, []}
-use Prim.Native.Nat.{ℕ, _+_, _-_, _≤_, _<_}
+use Prim.Native.Nat.{ℕ, _+_, _-_, _≤_}
 use denote.Ref.{now}
 use borrow.Author.Tests.{not-true, not-false}
 use lib.ListN.{length, getD}
@@ -16,9 +15,9 @@ use Rattle.pointers.specs.Pointers.{placeIn}
 use Rattle.pointers.specs.declared.Place.{Place}
 use Rattle.pointers.specs.declared.Place.the-variants.{At, Past}
 use Rattle.home.specs.Home.{blocks}
-use Rattle.volume.specs.Volume.{ibsz, inUse, follows, leadsOn, indexHeader}
+use Rattle.volume.specs.Volume.{ibsz, inUse, leadsOn, indexHeader}
 use Rattle.pointers.specs.Pointers.{flat}
-use Rattle.volume.proofs.OpeningLaws.{sized-is, geometry-is}
+use Rattle.volume.proofs.OpeningLaws.{sized-is}
 use Rattle.volume.proofs.IndexLaws.{Found, found, leads-unused}
 use Rattle.volume.proofs.VolumeLaws.{heads-gives, laid-room, laid-mapped}
 use Rattle.index_file.proofs.WalkLaws.{Along, along-start, along-take, along-length, along-fit, along-inside, along-bad, along-full, along-end, along-next, leads-at, leads-past, off, seen}

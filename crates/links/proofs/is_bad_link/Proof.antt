@@ -7,7 +7,6 @@ use denote.Ref.{now}
 use borrow.Author.Tests.{not-true, not-false}
 use Rattle.volume.specs.Volume.{header, inUse}
 use Rattle.volume.proofs.VolumeLaws.{opens}
-use Rattle.marks.specs.Marks.{capped}
 use Rattle.slots.proofs.SlotLaws.{stands-read}
 use Rattle.links.specs.Links.{linked, linksWanted}
 use Rattle.files.proofs.FileLaws.{files-passed}

@@ -1,6 +1,5 @@
 -- M.EFNU is read only of a header that heads its file.
 use borrow.Author.Needs.{needs}
-use denote.Ref.{now}
 use borrow.Author.Tests.{not-true, not-false}
 use Rattle.volume.specs.Opening.{alone}
 use Rattle.open_volume.proofs.is_alone.Statement.{statement}

@@ -1,7 +1,7 @@
 -- What is left of the pointer that has the place.
 use borrow.Author.Needs.{needs}
 use native.Mathlib.Omega.{arith}
-use mathlib.Core.Path.{_≡_, refl, subst}
+use mathlib.Core.Path.{refl, subst}
 use Prim.Native.Nat.{_-_}
 use denote.Ref.{now}
 use Rattle.pointers.specs.Pointers.{blocksOf, SpotOf}

@@ -12,7 +12,7 @@ use Rattle.home.specs.Home.{blocks}
 use Rattle.marks.specs.Marks.{tallied}
 use Rattle.marks.proofs.MarkLaws.{tallied-length}
 use Rattle.links.proofs.LinksLaws.{tallied-still}
-use Rattle.covers.specs.Covered.{covered, twice, map}
+use Rattle.covers.specs.Covered.{covered, twice}
 use Rattle.verdict.proofs.judge_blocks.Statement.{statement}
 use Rattle.verdict.proofs.judge_blocks.Tie as tie
 
@@ -57,8 +57,8 @@ bad-home-requires c κs =
     let s = start (t .before .before) in
     (s .pre .0, s .pre .1, s .pre .2, once t, room s _ (d .cover .ensures), holds s _ (d .cover .ensures))
 
-map-requires : tie.Need-map-requires
-map-requires c κs =
+bad-map-requires : tie.Need-bad-map-requires
+bad-map-requires c κs =
     let b = c .before .before .before .before .before in
     let t = b .before .before in
     let d = covering (t .before .before) in
@@ -74,7 +74,7 @@ returns c =
     let t = b .before .before in
     let d = covering (t .before .before) in
     let s = start (t .before .before) in
-    (rw (once t, sym (b .bad-home .ensures .0) ∙ told .enum-told2 .given .1) (c .map .ensures), b .bad-home .ensures .1 ∙ d .cover .ensures)
+    (rw (once t, sym (b .bad-home .ensures .0) ∙ told .enum-told2 .given .1) (c .bad-map .ensures), b .bad-home .ensures .1 ∙ d .cover .ensures)
 
 returns-2 : tie.Need-returns-2
 unfolding _then_
@@ -93,4 +93,4 @@ returns-3 c =
     (rw (sym (w .twice .ensures) ∙ o .once .given .1) refl, covering w .cover .ensures)
 
 pub judge-blocks-spec : {M : Type 1} → statement M
-judge-blocks-spec = tie.close (tie.spec cover-requires twice-requires (search needs) bad-home-requires (search needs) map-requires (search needs) (search needs) (search needs) returns (search needs) returns-2 (search needs) returns-3)
+judge-blocks-spec = tie.close (tie.spec cover-requires twice-requires (search needs) bad-home-requires (search needs) bad-map-requires (search needs) (search needs) (search needs) returns (search needs) returns-2 (search needs) returns-3)

@@ -1,5 +1,4 @@
 -- What the volume is known to be, as numbers.
-use borrow.Author.Needs.{needs}
 use denote.Ref.{now}
 use Rattle.volume.proofs.VolumeLaws.{says, opens, opens-mapped}
 use Rattle.volume.proofs.is_in_use.Statement.{statement}

@@ -1,4 +1,4 @@
--- Shown in proofs/Accepted.antt.
+-- Shown in proofs/AcceptedV.antt.
 use Rattle.witness.proofs.Accepted.{accepted}
 use Rattle.witness.proofs.volume_v_is_accepted.Statement.{statement}
 use Rattle.witness.proofs.volume_v_is_accepted.Tie as tie

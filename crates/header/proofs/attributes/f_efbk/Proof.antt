@@ -6,7 +6,7 @@ use Rattle.header.proofs.attributes.f_efbk.Tie as tie
 
 returns : tie.Need-returns
 unfolding fEfbk
-returns c = cc
+returns c = c .long-at .ensures
 
 pub f-efbk-spec : {M : Type 1} → statement M
 f-efbk-spec = tie.close (tie.spec (search needs) returns)

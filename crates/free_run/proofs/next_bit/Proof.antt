@@ -4,10 +4,10 @@ use Prim.Native.Nat.{_-_}
 use native.Mathlib.Omega.{arith}
 use denote.Ref.{now}
 use borrow.Author.Needs.{needs}
-use Rattle.free.specs.Free.{nextBit}
-use Rattle.free.proofs.FreeLaws.{next-here, next-on, next-none}
-use Rattle.free.proofs.next_bit.Statement.{statement}
-use Rattle.free.proofs.next_bit.Tie as tie
+use Rattle.free_run.specs.Free.{nextBit}
+use Rattle.free_run.proofs.FreeLaws.{next-here, next-on, next-none}
+use Rattle.free_run.proofs.next_bit.Statement.{statement}
+use Rattle.free_run.proofs.next_bit.Tie as tie
 
 abbrev Inv-loop : tie.InvT-loop
 Inv-loop map n b from j₀ j = nextBit map n b from ≡ nextBit map n b j

@@ -7,10 +7,10 @@ use native.Mathlib.Decide.{decLt}
 use native.Mathlib.Omega.{arith}
 use denote.Ref.{now}
 use borrow.Author.Needs.{needs}
-use Rattle.runs.specs.Runs.{isRun}
-use Rattle.runs.proofs.RunLaws.{run-none, run-more, run-broken, start-found, start-missing}
-use Rattle.runs.proofs.lowest_run.Statement.{statement}
-use Rattle.runs.proofs.lowest_run.Tie as tie
+use Rattle.lowest_run.specs.Runs.{isRun}
+use Rattle.lowest_run.proofs.RunLaws.{run-none, run-more, run-broken, start-found, start-missing}
+use Rattle.lowest_run.proofs.lowest_run.Statement.{statement}
+use Rattle.lowest_run.proofs.lowest_run.Tie as tie
 
 abbrev Inv-loop : tie.InvT-loop
 Inv-loop map n c s k₀ k = (k < c) × (isRun map k s ≡ true)

@@ -5,8 +5,8 @@ use Prim.Native.Nat.{ℕ, _+_, _-_}
 use lib.Dec.{ltb}
 use Rattle.lists.specs.First.{first, below}
 use Rattle.image.specs.Bits.{isSet}
-use Rattle.runs.specs.declared.Start.{Start}
-use Rattle.runs.specs.declared.Start.the-variants.{At, Missing}
+use Rattle.lowest_run.specs.declared.Start.{Start}
+use Rattle.lowest_run.specs.declared.Start.the-variants.{At, Missing}
 
 -- Block s + i is free by the storage map. 01, Storage map file: "set means free".
 unfoldable pub isFree : List ℕ → ℕ → ℕ → Bool

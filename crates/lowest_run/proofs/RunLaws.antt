@@ -9,8 +9,8 @@ use Rattle.image.specs.Bits.{bitAt, isSet}
 use Rattle.lists.specs.First.{first}
 use Rattle.lists.proofs.BelowLaws.{below-none, below-more, below-fails}
 use Rattle.lists.proofs.FirstLaws.{first-is}
-use Rattle.runs.specs.Runs.{isFree, isRun, starts, lowestStart, startOf}
-use Rattle.runs.specs.declared.Start.the-variants.{At, Missing}
+use Rattle.lowest_run.specs.Runs.{isFree, isRun, starts, lowestStart, startOf}
+use Rattle.lowest_run.specs.declared.Start.the-variants.{At, Missing}
 
 -- A run grows by one free block after another.
 pub run-none : (map : List ℕ) (s : ℕ) → isRun map 0 s ≡ true

@@ -3,9 +3,9 @@ use mathlib.Core.Path.{refl, sym, _∙_}
 use denote.Ref.{now}
 use Rattle.image.specs.Stores.{zeros}
 use borrow.Author.Needs.{needs}
-use Rattle.free.proofs.FreeLaws.{run-refused}
-use Rattle.free.proofs.free_run.Statement.{statement}
-use Rattle.free.proofs.free_run.Tie as tie
+use Rattle.free_run.proofs.FreeLaws.{run-refused}
+use Rattle.free_run.proofs.free_run.Statement.{statement}
+use Rattle.free_run.proofs.free_run.Tie as tie
 
 -- The array lent for the places is new.
 open-requires : tie.Need-open-requires

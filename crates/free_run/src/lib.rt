@@ -12,7 +12,7 @@ ghost use mathlib.Core.Path.{_≡_};
 ghost use Prim.Native.Nat.{_*_, _^_, _≤_, _<_};
 ghost use lib.ListN.{length};
 ghost use Rattle.volume.specs.Opening.{Open};
-ghost use Rattle.free.specs.Free.{nextBit, freeRunAnswer};
+ghost use Rattle.free_run.specs.Free.{nextBit, freeRunAnswer};
 
 // The first place from a place on, below n, at which the bit of a map is b; not below n where there is none.
 fn next_bit(map: &[u8], n: u32, b: u8, from: u32) -> u32

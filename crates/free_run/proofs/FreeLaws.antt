@@ -13,7 +13,7 @@ use Rattle.answer.specs.Outcome.{unless, _then_}
 use Rattle.answer.specs.Answers.{runAnswer}
 use Rattle.home.specs.Home.{blocks}
 use Rattle.volume.specs.Opening.{openVolume}
-use Rattle.free.specs.Free.{isBit, nextBit, nextFree, nextTaken, findFree, freeRunAnswer}
+use Rattle.free_run.specs.Free.{isBit, nextBit, nextFree, nextTaken, findFree, freeRunAnswer}
 
 -- At place j the bit is b, or the search goes on, or it is past the last place; and it never goes back.
 module _ (map : List ℕ) (n b j : ℕ) where

@@ -15,10 +15,10 @@ use Rattle.home.specs.Home.{blocks}
 use Rattle.volume.specs.Volume.{mapBlocks, storageMap, mapBits}
 use Rattle.volume.proofs.VolumeLaws.{Opens, opens, says, says-base, storageMap-length}
 use Rattle.map_marks.specs.Wanted.{unlikeMarks}
-use Rattle.covers.specs.Covered.{mapPlace, map}
+use Rattle.covers.specs.Covered.{mapPlace, badMap}
 use Rattle.covers.proofs.MarkedLaws.{map-marked}
-use Rattle.covers.proofs.map.Statement.{statement}
-use Rattle.covers.proofs.map.Tie as tie
+use Rattle.covers.proofs.bad_map.Statement.{statement}
+use Rattle.covers.proofs.bad_map.Tie as tie
 
 module _ (s : tie.Start) where
   abbrev image : List ℕ
@@ -80,16 +80,16 @@ cast-place c =
     omega (arith, few b, c .first-unlike .ensures, first-has (unlikeMarks (now (b .region .result)) (now (start b .args .area)) (start b .args .v .blocks)) 0 (4096 * b .before .map-blocks .result) .high)
 
 returns : tie.Need-returns
-unfolding map unless
+unfolding badMap unless
 returns c =
     let d = c .before in
     rw (eq-eqb (mapPlace (image (start (r d)))) (mapBits (blocks (image (start (r d))))) (sym (found d) ∙ c .if1 .taken ∙ end d))
 
 returns-2 : tie.Need-returns-2
-unfolding map unless
+unfolding badMap unless
 returns-2 c =
     let d = c .before in
     rw (ne-eqb (mapPlace (image (start (r d)))) (mapBits (blocks (image (start (r d))))) (λ e. c .if1 .left (found d ∙ e ∙ sym (end d))), ← found d)
 
-pub map-spec : {M : Type 1} → statement M
-map-spec = tie.close (tie.spec (search needs) (search needs) mul-end (search needs) (search needs) first-unlike-requires cast-place returns returns-2)
+pub bad-map-spec : {M : Type 1} → statement M
+bad-map-spec = tie.close (tie.spec (search needs) (search needs) mul-end (search needs) (search needs) first-unlike-requires cast-place returns returns-2)

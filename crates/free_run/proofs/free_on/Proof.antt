@@ -11,10 +11,10 @@ use Rattle.home.specs.Home.{blocks}
 use Rattle.volume.specs.Volume.{mapBlocks, storageMap}
 use Rattle.volume.specs.Opening.{Laid}
 use Rattle.volume.proofs.VolumeLaws.{Opens, opens, says, says-base, storageMap-length}
-use Rattle.free.specs.Free.{nextBit, nextFree, nextTaken}
-use Rattle.free.proofs.FreeLaws.{next-low, run-done, run-absent}
-use Rattle.free.proofs.free_on.Statement.{statement}
-use Rattle.free.proofs.free_on.Tie as tie
+use Rattle.free_run.specs.Free.{nextBit, nextFree, nextTaken}
+use Rattle.free_run.proofs.FreeLaws.{next-low, run-done, run-absent}
+use Rattle.free_run.proofs.free_on.Statement.{statement}
+use Rattle.free_run.proofs.free_on.Tie as tie
 
 module _ (c : tie.After-region) where
   abbrev start : tie.Start

@@ -3,7 +3,7 @@ use answer::types::Lbn;
 ghost use mathlib.Core.Path.{_≡_};
 ghost use Prim.Native.Nat.{_*_, _^_, _≤_, _<_};
 ghost use lib.ListN.{length};
-ghost use Rattle.runs.specs.Runs.{startOf};
+ghost use Rattle.lowest_run.specs.Runs.{startOf};
 
 // Where a run of free blocks begins.
 pub enum Start {
