@@ -1,5 +1,5 @@
 -- Shown in proofs/AcceptedV.antt.
-use Rattle.witness.proofs.Accepted.{accepted}
+use Rattle.witness.proofs.AcceptedV.{accepted}
 use Rattle.witness.proofs.volume_v_is_accepted.Statement.{statement}
 use Rattle.witness.proofs.volume_v_is_accepted.Tie as tie
 
