@@ -1,13 +1,13 @@
 -- The records of a directory, and a search among those of some blocks.
 use mathlib.Core.Path.{_≡_}
-use mathlib.Core.Bool.{Bool, true}
-use mathlib.Core.List.{List}
-use Prim.Native.Nat.{ℕ, _+_, _*_, _-_, _/_, _%_, min, _≤_, _<_}
+use mathlib.Core.Bool.{Bool, true, cond}
+use mathlib.Core.List.{List, [], _∷_}
+use Prim.Native.Nat.{ℕ, zero, suc, _+_, _*_, _-_, _/_, _%_, min, _≤_, _<_}
 use lib.ListN.{length, getD}
 use Rattle.lists.specs.First.{first}
 use Rattle.image.specs.Blocks.{block}
 use Rattle.pointers.specs.Pointers.{pointerLbn, pointerCount, pointersAt, pointers}
-use Rattle.records.specs.Records.{recordIn, entryOf, isWanted}
+use Rattle.records.specs.Records.{recordIn, entryOf, isEmpty, isWanted}
 use Rattle.records.specs.declared.Entry.{Entry}
 use Rattle.records.specs.declared.Wanted.{Wanted}
 use Rattle.home.specs.Home.{blocks}
@@ -46,3 +46,11 @@ firstWanted image n w place = first (wantedAt image (fileBlocks image n) w) plac
 -- The entry in record r of the directory.
 unfoldable pub entryOfFile : List ℕ → ℕ → ℕ → Entry
 entryOfFile image n r = entryAt image (fileBlocks image n) r
+
+-- The entries in those of the d records from a place on that are not empty, in order.
+unfoldable pub filledFrom : List ℕ → ℕ → ℕ → ℕ → List Entry
+filledFrom image n place zero = []
+filledFrom image n place (suc d) =
+    let e = entryOfFile image n place in
+    let on = filledFrom image n (place + 1) d in
+    cond (isEmpty e) on (e ∷ on)

@@ -17,12 +17,12 @@ use Rattle.open_file.specs.Opening.{openFile}
 use Rattle.records.specs.Records.{isEmpty, isWanted}
 use Rattle.records.specs.declared.Entry.{Entry}
 use Rattle.records.specs.declared.Wanted.the-variants.{Any}
-use Rattle.directory.specs.Search.{wantedAt, recordCount, firstWanted, entryOfFile}
+use Rattle.directory.specs.Search.{wantedAt, recordCount, firstWanted, entryOfFile, filledFrom}
 use Rattle.look_up.specs.LookUp.{findNext, nextRecordAnswer}
 use Rattle.look_up.specs.declared.NextRecordAnswer.{NextRecordAnswer}
 use Rattle.look_up.specs.declared.NextRecordAnswer.the-variants.{Done, Refused}
 use Rattle.look_up.proofs.LookUpLaws.{next-refused, next-absent, next-found}
-use Rattle.walker.specs.Walker.{placeAfter, Answers, Told, answered, walked, filledFrom, Walks}
+use Rattle.walker.specs.Walker.{placeAfter, Answers, Told, answered, walked, Walks}
 
 not-true : (b : Bool) → not b ≡ true → b ≡ false
 not-true true e = sym e
@@ -115,13 +115,13 @@ module _ (image : List ℕ) (id : FileId) where
     next-filled place l e = next-found image id place opened place (sym (first-here wanted place count l (wanted-is place ∙ ap not e))) l
 
     -- The steps from a place on, by the number of records that are left.
-    walks-from : (d n place : ℕ) → place + d ≡ count → d ≤ n → walked image id n place ≡ filledFrom image id place d
+    walks-from : (d n place : ℕ) → place + d ≡ count → d ≤ n → walked image id n place ≡ filledFrom image (id .number) place d
     unfolding filledFrom walked answered placeAfter
     walks-from zero n place at few = ended n place Absent (next-absent image id place opened (omega (arith, found-is place .low)))
     walks-from (suc d) n place at few = go (isEmpty (entry place)) refl n few (λ m l. walks-from d m (place + 1) (omega arith) l)
       where
         go : (b : Bool) → isEmpty (entry place) ≡ b → (n : ℕ) → suc d ≤ n
-            → ((m : ℕ) → d ≤ m → walked image id m (place + 1) ≡ filledFrom image id (place + 1) d) → walked image id n place ≡ filledFrom image id place (suc d)
+            → ((m : ℕ) → d ≤ m → walked image id m (place + 1) ≡ filledFrom image (id .number) (place + 1) d) → walked image id n place ≡ filledFrom image (id .number) place (suc d)
         go true e n few on = rw e (steps-over n place (next-empty place (omega arith) e) ∙ on n (omega arith))
         go false e zero few on = absurd (omega arith)
         go false e (suc n) few on = rw (e, next-filled place (omega arith) e) (ap (λ es. entry place ∷ es) (on n (omega arith)))

@@ -1,6 +1,6 @@
 -- A walk over the records of a directory: where a step moves it, what it answers, and what it comes to.
 use mathlib.Core.Path.{_≡_}
-use mathlib.Core.Bool.{true, false, cond}
+use mathlib.Core.Bool.{true, false}
 use mathlib.Core.List.{List, [], _∷_}
 use Prim.Native.Nat.{ℕ, zero, suc, _+_, _≤_, _<_}
 use Rattle.answer.specs.declared.types.FileId.{FileId}
@@ -10,7 +10,7 @@ use Rattle.answer.specs.declared.outcome.Outcome.the-variants as outcome
 use Rattle.open_file.specs.Opening.{openFile}
 use Rattle.records.specs.Records.{isEmpty}
 use Rattle.records.specs.declared.Entry.{Entry}
-use Rattle.directory.specs.Search.{recordCount, entryOfFile}
+use Rattle.directory.specs.Search.{recordCount, entryOfFile, filledFrom}
 use Rattle.look_up.specs.LookUp.{nextRecordAnswer}
 use Rattle.look_up.specs.declared.NextRecordAnswer.{NextRecordAnswer}
 use Rattle.look_up.specs.declared.NextRecordAnswer.the-variants.{Done, Refused}
@@ -52,14 +52,6 @@ walked image id (suc n) place =
     let s = nextRecordAnswer image id place in
     answered s (walked image id n (placeAfter s place))
 
--- The entries in those of the d records from a place on that are not empty, in order.
-unfoldable pub filledFrom : List ℕ → FileId → ℕ → ℕ → List Entry
-filledFrom image id place zero = []
-filledFrom image id place (suc d) =
-    let e = entryOfFile image (id .number) place in
-    let on = filledFrom image id (place + 1) d in
-    cond (isEmpty e) on (e ∷ on)
-
 -- 01, Names and directories, of the walker, sentence by sentence, on every image, for every ID and from every place.
 pub record Walks : Type 0 where
   -- "Each step answers the next record that is not empty".
@@ -74,4 +66,4 @@ pub record Walks : Type 0 where
   pub at-once : (image : List ℕ) (id : FileId) (place : ℕ) (r : Refusal) → openFile image id ≡ outcome.Refused r → nextRecordAnswer image id place ≡ Refused Absent
   -- A walk from the first record on, of as many steps as there are records or more, answers all that are not empty, in order, and no other.
   pub all : (image : List ℕ) (id : FileId) (n : ℕ) → openFile image id ≡ outcome.Passed → recordCount image (id .number) ≤ n
-      → walked image id n 0 ≡ filledFrom image id 0 (recordCount image (id .number))
+      → walked image id n 0 ≡ filledFrom image (id .number) 0 (recordCount image (id .number))
