@@ -24,8 +24,8 @@ attributesOf h count = record {
   flags = hFcha h;
   «record_type» = fRtypRatt h;
   «record_size» = fRsiz h;
-  highest = fHibk h;
-  «end_block» = fEfbk h;
+  highest = record { 0 = fHibk h };
+  «end_block» = record { 0 = fEfbk h };
   «first_free» = fFfby h;
 }
 

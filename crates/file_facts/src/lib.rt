@@ -3,7 +3,9 @@ use crate::types::Attributes;
 use crate::types::AttributesAnswer;
 use answer::outcome::Outcome;
 use answer::types::FileId;
+use answer::types::Vbn;
 use header::attributes::end_of;
+use header::attributes::f_efbk;
 use header::attributes::long_at;
 use image::blocks::block;
 use image::words::word_at;
@@ -27,8 +29,8 @@ fn attributes_of(h: &[u8], count: u32) -> Attributes
         flags: word_at(h, 12),
         record_type: word_at(h, 14),
         record_size: word_at(h, 16),
-        highest: long_at(h, 18),
-        end_block: long_at(h, 22),
+        highest: Vbn(long_at(h, 18)),
+        end_block: Vbn(f_efbk(h).0),
         first_free: word_at(h, 26),
     }
 }

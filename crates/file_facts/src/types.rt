@@ -1,5 +1,6 @@
 // What an opened file says of itself, as types.
 use answer::refusal::Refusal;
+use answer::types::Vbn;
 
 // What an opened file says of itself.
 pub struct Attributes {
@@ -18,9 +19,9 @@ pub struct Attributes {
     // F.RSIZ.
     pub record_size: u16,
     // F.HIBK.
-    pub highest: u32,
+    pub highest: Vbn,
     // F.EFBK.
-    pub end_block: u32,
+    pub end_block: Vbn,
     // F.FFBY.
     pub first_free: u16,
 }

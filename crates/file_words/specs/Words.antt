@@ -24,8 +24,8 @@ attributesWords (answers.Done f) =
     ∷ f .flags
     ∷ f .«record_type»
     ∷ f .«record_size»
-    ∷ f .highest
-    ∷ f .«end_block»
+    ∷ f .highest .0
+    ∷ f .«end_block» .0
     ∷ f .«first_free»
     ∷ [])
 attributesWords (answers.Refused r) = refusedWords r

@@ -37,8 +37,8 @@ pub fn put_attributes(answer: &mut [u64; 12], result: AttributesAnswer)
                     f.flags as u64,
                     f.record_type as u64,
                     f.record_size as u64,
-                    f.highest as u64,
-                    f.end_block as u64,
+                    f.highest.0 as u64,
+                    f.end_block.0 as u64,
                     f.first_free as u64,
                 ],
             );

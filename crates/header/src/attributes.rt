@@ -1,4 +1,5 @@
 // The attributes that FCS keeps in a first header, and the end of file that they give.
+use answer::types::Vbn;
 use image::words::word_at;
 ghost use mathlib.Core.Path.{_≡_};
 ghost use Prim.Native.Nat.{_+_, _*_, _<_};
@@ -15,11 +16,11 @@ pub fn long_at(h: &[u8], at: usize) -> u32
 }
 
 // F.EFBK, the VBN in which the end of file lies; 0 where there is none.
-pub fn f_efbk(h: &[u8]) -> u32
+pub fn f_efbk(h: &[u8]) -> Vbn
     requires { ⌜ length (now h) ≡ 512 ⌝ }
-    ensures { λ r. ⌜ r ≡ fEfbk (now (h .entry)) ⌝ }
+    ensures { λ r. ⌜ r .0 ≡ fEfbk (now (h .entry)) ⌝ }
 {
-    long_at(h, 22)
+    Vbn(long_at(h, 22))
 }
 
 // How many bytes lie before the end of file.
@@ -27,7 +28,7 @@ pub fn end_byte(h: &[u8]) -> u64
     requires { ⌜ (length (now h) ≡ 512) × (fEfbk (now h) ≡ 0 → ⊥) ⌝ }
     ensures { λ r. ⌜ r ≡ endByte (now (h .entry)) ⌝ }
 {
-    512 * ((f_efbk(h) as u64) - 1) + (word_at(h, 26) as u64)
+    512 * ((f_efbk(h).0 as u64) - 1) + (word_at(h, 26) as u64)
 }
 
 // How many bytes of a file of so many blocks, whose first header is h, lie before its end.
@@ -36,7 +37,7 @@ pub fn end_of(h: &[u8], count: u32) -> u64
     ensures { λ r. ⌜ r ≡ endOf (now (h .entry)) count ⌝ }
 {
     let all = 512 * (count as u64);
-    if f_efbk(h) == 0 {
+    if f_efbk(h).0 == 0 {
         return all;
     }
     let end = end_byte(h);

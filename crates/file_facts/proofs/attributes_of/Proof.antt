@@ -13,5 +13,4 @@ returns c = cc
 pub attributes-of-spec : {M : Type 1} → statement M
 attributes-of-spec =
     tie.close
-    (tie.spec
-    (search needs) (search needs) (search needs) (search needs) (search needs) (search needs) (search needs) (search needs) (search needs) returns)
+    (tie.spec (search needs) (search needs) (search needs) (search needs) (search needs) (search needs) (search needs) (search needs) (search needs) returns)

@@ -6,8 +6,11 @@ use Rattle.file_words.specs.Words.{attributesWords}
 use Rattle.file_words.proofs.put_attributes.Statement.{statement}
 use Rattle.file_words.proofs.put_attributes.Tie as tie
 
-cast-t15 : tie.Need-cast-t15
-cast-t15 c = omega (arith, c .struct-known9 .given)
+cast-end-block : tie.Need-cast-t14
+cast-end-block c = omega (arith, c .struct-known8 .given)
+
+cast-first-free : tie.Need-cast-t15
+cast-first-free c = omega (arith, c .struct-known9 .given)
 
 returns : tie.Need-returns
 returns c = c .put-done .ensures ∙ ap attributesWords (sym (c .before .before .before .before .before .before .before .before .before .before .before .before .result .given .1))
@@ -27,8 +30,8 @@ put-attributes-spec =
     (search needs)
     (search needs)
     (search needs)
-    (search needs)
-    cast-t15
+    cast-end-block
+    cast-first-free
     (search needs)
     (search needs)
     (search needs)

@@ -8,21 +8,21 @@ use Rattle.header.proofs.attributes.end_of.Tie as tie
 
 returns : tie.Need-returns
 returns c =
-    let l = c .before in
+    let l = c .before .before in
     let a = l .before .before .args in
     omega (arith, end-none (now (a .h)) (a .count) (omega (arith, l .f-efbk .ensures)))
 
 returns-2 : tie.Need-returns-2
 returns-2 c =
     let e = c .before in
-    let l = e .before .before in
+    let l = e .before .before .before in
     let a = l .before .before .args in
     omega (arith, end-given (now (a .h)) (a .count) (omega (arith, l .f-efbk .ensures)), e .end-byte .ensures)
 
 returns-3 : tie.Need-returns-3
 returns-3 c =
     let e = c .before in
-    let l = e .before .before in
+    let l = e .before .before .before in
     let a = l .before .before .args in
     omega (arith, end-given (now (a .h)) (a .count) (omega (arith, l .f-efbk .ensures)), e .end-byte .ensures)
 
