@@ -1,5 +1,5 @@
 -- Where the image ends before the region does, what is left of it is all that `take` has to take.
-use mathlib.Core.Path.{_≡_}
+use mathlib.Core.Path.{_≡_, sym, _∙_}
 use Prim.Native.Nat.{_+_, _-_, _*_}
 use native.Mathlib.Omega.{arith}
 use denote.Ref.{now}
@@ -22,7 +22,7 @@ unfolding region
 returns-2 c =
     let a = c .before .before .before .before .args in
     let rest = drop (512 * a .lbn .0) (now (a .image)) in
-    rw (take-all (length (now (a .image)) - 512 * a .lbn .0) rest (simp length-drop (omega arith)), take-all (512 * a .q) rest (simp length-drop (omega arith)))
+    take-all (length (now (a .image)) - 512 * a .lbn .0) rest (simp length-drop (omega arith)) ∙ sym (take-all (512 * a .q) rest (simp length-drop (omega arith)))
 
 returns-3 : tie.Need-returns-3
 unfolding region
