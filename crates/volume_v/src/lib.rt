@@ -1,7 +1,1 @@
-// Volume V, and the worked cases of 01 that are marked P.
-ghost use Rattle.volume_v.specs.Cases.{Cases};
-
-// The cases marked P, as one statement about the definitions.
-pub fn worked_cases()
-    ensures { λ _. ⌜ Cases ⌝ }
-{}
+// Volume V, the worked example of 01, as bytes, and that it is accepted. There is no code here.

@@ -33,9 +33,9 @@ use Rattle.mapping.specs.Mapping.{hasVbn, lbnOf, findVbn, mapAnswer}
 use Rattle.verdict.specs.Verdict.{verdict}
 use Rattle.lowest_run.specs.Runs.{isFree, isRun, starts, lowestStart}
 use Rattle.update.specs.Extend.{isKnownNumber, isCount, hasRoom, runStart, hasRun, extendTests, extendOutcome, extendAnswer}
 use Rattle.volume_v.specs.VolumeV.{words, join, homeBlock, indexMapBlock, headerBlock, endOfFile, storageMapBlock, directoryBlock, volumeV}
-use Rattle.volume_v.specs.Cases.{Cases, reads, dat, twoWords, file6}
+use Rattle.worked_cases.specs.Cases.{Cases, reads, dat, twoWords, file6}
 use Rattle.volume_v.proofs.Judged.{computed}
 
 outcome : (c : ℕ) → extendOutcome volumeV file6 c 100 16 ≡ extendTests volumeV file6 c
 unfolding extendOutcome
