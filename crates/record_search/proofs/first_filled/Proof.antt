@@ -6,10 +6,10 @@ use native.Mathlib.Omega.{arith}
 use denote.Ref.{now}
 use Rattle.lists.specs.First.{first}
 use Rattle.lists.proofs.FirstLaws.{first-here, first-on, first-none}
 use Rattle.records.specs.Records.{wantedIn}
 use Rattle.records.specs.declared.Wanted.the-variants.{Any}
-use Rattle.records.proofs.first_filled.Statement.{statement}
-use Rattle.records.proofs.first_filled.Tie as tie
+use Rattle.record_search.proofs.first_filled.Statement.{statement}
+use Rattle.record_search.proofs.first_filled.Tie as tie
 
 abbrev Inv-loop : tie.InvT-loop
 Inv-loop b from to i₀ i = (i ≤ to) × (first (wantedIn b Any) from (to - from) ≡ first (wantedIn b Any) i (to - i))

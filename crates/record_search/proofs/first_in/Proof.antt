@@ -1,7 +1,7 @@
 -- By cases on what is wanted.
 use borrow.Author.Needs.{needs}
-use Rattle.records.proofs.first_in.Statement.{statement}
-use Rattle.records.proofs.first_in.Tie as tie
+use Rattle.record_search.proofs.first_in.Statement.{statement}
+use Rattle.record_search.proofs.first_in.Tie as tie
 
 returns : tie.Need-returns
 returns c = rw (c .before .enum-told .given .1) (c .first-filled .ensures)

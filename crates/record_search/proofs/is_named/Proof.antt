@@ -3,9 +3,9 @@ use borrow.Author.Needs.{needs}
 use native.Mathlib.Omega.{arith}
 use denote.Ref.{now}
 use borrow.Author.Tests.{eq-eqb, ne-eqb}
 use Rattle.records.proofs.RecordLaws.{named-in}
-use Rattle.records.proofs.is_named.Statement.{statement}
-use Rattle.records.proofs.is_named.Tie as tie
+use Rattle.record_search.proofs.is_named.Statement.{statement}
+use Rattle.record_search.proofs.is_named.Tie as tie
 
 returns : tie.Need-returns
 returns c =
