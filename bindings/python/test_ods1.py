@@ -53,25 +53,6 @@ def put(image: bytearray, lbn: int, place: int, words: List[int]) -> None:
     block[255] = sum(block[:255]) & 0xFFFF
 
 
-def with_versions(placed: Dict[int, int], end: Tuple[int, int]) -> bytearray:
-    """Volume V with versions of READS.DAT at places of its directory, ended so.
-
-    The end is the end-of-file block and the first free byte, in header 4.
-    """
-    image = bytearray(SAMPLE)
-    for place, version in placed.items():
-        words = (6, 9, 0, *READS.with_version(version).words)
-        struct.pack_into("<8H", image, 21 * ods1.BLOCK + 16 * place, *words)
-    high, low = divmod(end[0], 0x1_0000)
-    put(image, 6, 11, [high, low, end[1]])
-    return image
-
-
-def versions(records: Iterator[ods1.Record]) -> List[int]:
-    """The versions of records, in their order."""
-    return [record.name.version for record in records]
-
-
 class Case(unittest.TestCase):
     """What the tests share."""
 
@@ -159,58 +140,13 @@ class VolumeV(Case):
         self.assertEqual(list(ods1.records(b"", MASTER)), [])
 
     def test_the_records_of_a_directory_come_in_order(self) -> None:
-        image = with_versions({2: 2, 31: 3}, end=(2, 0))
-        self.assertEqual(versions(ods1.records(image, MASTER)), [1, 2, 3])
-        self.assertEqual(versions(ods1.records_past_end(image, MASTER)), [])
-
-    def test_records_past_the_end(self) -> None:
-        image = with_versions({1: 2, 31: 3}, end=(1, 16))
-        self.assertEqual(versions(ods1.records(image, MASTER)), [1])
-        self.assertEqual(versions(ods1.records_past_end(image, MASTER)), [2, 3])
-        second = ods1.Record(FILE_6, READS.with_version(2))
-        third = ods1.Record(FILE_6, READS.with_version(3))
-        self.assertEqual(ods1.next_past_end(image, MASTER, 0), (second, 2))
-        self.assertEqual(ods1.next_past_end(image, MASTER, 1), (second, 2))
-        self.assertEqual(ods1.next_past_end(image, MASTER, 2), (third, 32))
-        for record in (second, third):
-            with self.refused(Refusal.ABSENT):
-                ods1.look_up(image, MASTER, record.name)
-        for place in (32, 0xFFFF_FFFF):
-            with self.subTest(place=place), self.refused(Refusal.ABSENT):
-                ods1.next_past_end(image, MASTER, place)
-
-    def test_the_end_of_a_directory(self) -> None:
-        """The end's block and first free byte, and the versions on both sides of it."""
-        ends = [
-            ((0, 0), [], [1, 2, 3]),
-            ((0, 512), [], [1, 2, 3]),
-            ((1, 0), [], [1, 2, 3]),
-            ((1, 15), [], [1, 2, 3]),
-            ((1, 31), [1], [2, 3]),
-            ((1, 32), [1, 2], [3]),
-            ((1, 511), [1, 2], [3]),
-            ((1, 512), [1, 2, 3], []),
-            ((0xFFFF_FFFF, 0xFFFF), [1, 2, 3], []),
-        ]
-        for end, below, past in ends:
-            image = with_versions({1: 2, 31: 3}, end)
-            with self.subTest(end=end):
-                self.assertEqual(versions(ods1.records(image, MASTER)), below)
-                past_end = ods1.records_past_end(image, MASTER)
-                self.assertEqual(versions(past_end), past)
-
-    def test_past_the_end_of_what_does_not_open(self) -> None:
-        image = bytes(with_versions({1: 2}, end=(1, 16)))
-        asked: List[Tuple[bytes, FileId, Refusal]] = [
-            (b"", MASTER, Refusal.SIZE),
-            (image, FileId(4, 5, 0), Refusal.SEQUENCE),
-            (image, FileId(4, 4, 1), Refusal.RELVOL),
-            (image, FileId(7, 1, 0), Refusal.NUMBER),
-        ]
-        for volume, id, refusal in asked:
-            with self.subTest(id=id), self.refused(refusal):
-                ods1.next_past_end(volume, id, 0)
-            self.assertEqual(list(ods1.records_past_end(volume, id)), [])
+        image = bytearray(SAMPLE)
+        block = 21 * ods1.BLOCK
+        first = image[block : block + 16]
+        image[block + 32 : block + 48] = first[:14] + bytes([2, 0])
+        image[block + 496 : block + 512] = first[:14] + bytes([3, 0])
+        versions = [record.name.version for record in ods1.records(image, MASTER)]
+        self.assertEqual(versions, [1, 2, 3])
 
     def test_verdict(self) -> None:
         marks = WorkAreas(bytearray(b"\xee" * 101), bytearray(b"\xee" * 17))
@@ -600,7 +536,6 @@ class Arguments(Case):
             lambda long: ods1.block(SAMPLE, FILE_6, long),
             lambda long: ods1.extent(SAMPLE, FILE_6, long),
             lambda long: ods1.next_record(SAMPLE, MASTER, long),
-            lambda long: ods1.next_past_end(SAMPLE, MASTER, long),
             lambda long: ods1.pointer(SAMPLE, 6, long),
             lambda long: ods1.free_run(SAMPLE, long),
             lambda long: ods1.extend(image, FILE_6, long, areas()),
@@ -687,7 +622,7 @@ class Declarations(Case):
             for name, arguments in _exported.DECLARED.items()
         }
         self.assertEqual(here, declared_in_rust())
-        self.assertEqual(len(here), 20)
+        self.assertEqual(len(here), 19)
 
     def test_ctypes_has_the_widths_of_rust(self) -> None:
         types = {
@@ -729,7 +664,7 @@ class Declarations(Case):
     def test_everything_public_is_annotated(self) -> None:
         public = [getattr(ods1, name) for name in ods1.__all__]
         functions = [thing for thing in public if inspect.isfunction(thing)]
-        self.assertEqual(len(functions), 23)
+        self.assertEqual(len(functions), 21)
         for function in functions:
             names = {*inspect.signature(function).parameters, "return"}
             self.assertEqual(set(typing.get_type_hints(function)), names, function)
@@ -856,7 +791,7 @@ class Documents(Case):
         module = doctest.testmod(ods1)
         readme = doctest.testfile("README.md")
         self.assertEqual((module.failed, readme.failed), (0, 0))
-        self.assertEqual((module.attempted, readme.attempted), (8, 14))
+        self.assertEqual((module.attempted, readme.attempted), (8, 9))
 
 
 if __name__ == "__main__":

@@ -32,8 +32,7 @@ pub const VERBS: &[Verb] = &[
         more: "Walks the master file directory (4,4,0) and every directory file that it lists, and \
                theirs. A stale entry, whose ID is refused with SEQUENCE or NUMBER, names a file that is \
                no more; such entries stand out and are counted. Files that no entry names are listed \
-               after them. The entries are those below each directory's end of file; ods1 ls --past-end \
-               shows what stands behind it.",
+               after them.",
         examples: &[
             ("ods1 audit station12.dsk", "every entry, with the stale ones marked"),
             ("ods1 audit --stale station12.dsk", "the stale entries alone, and the counts"),
@@ -42,14 +41,10 @@ pub const VERBS: &[Verb] = &[
     Verb {
         name: "ls",
         about: "List a directory",
-        more: "Lists the master file directory, or the one that is given, in the order of its records, up \
-               to the directory's end of file. With --past-end the records behind the end follow, each \
-               with the mark - and the words past the end. They are not entries: the station has given \
-               them up, and no look-up finds them.",
+        more: "Lists the master file directory, or the one that is given, in the order of its records.",
         examples: &[
             ("ods1 ls station12.dsk", "the master file directory"),
             ("ods1 ls station12.dsk '[200,200]'", "a user file directory"),
-            ("ods1 ls --past-end station12.dsk '[200,200]'", "and the records that stand behind its end of file"),
         ],
     },
     Verb {
@@ -221,7 +216,6 @@ fn creating(verb: Command) -> Command {
 /// The arguments of each verb.
 fn with_arguments(verb: Command, name: &str) -> Command {
     let directory = "the directory, as [200,200]; else the master file directory";
-    let past_end = "show the records behind the directory's end too, marked: no look-up finds them";
     match name {
         "judge" => verb.arg(image()),
         "audit" => verb
@@ -229,8 +223,7 @@ fn with_arguments(verb: Command, name: &str) -> Command {
             .arg(flag("stale", "show the stale entries alone")),
         "ls" => verb
             .arg(image())
-            .arg(positional("DIRECTORY", directory).required(false))
-            .arg(flag("past-end", past_end)),
+            .arg(positional("DIRECTORY", directory).required(false)),
         "map" => verb.arg(image()).arg(file()).arg(svg()).arg(force()),
         "cat" => verb.arg(image()).arg(file()).arg(blocks()),
         "extract" => verb

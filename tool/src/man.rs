@@ -274,7 +274,7 @@ mod tests {
         let page = read(&page());
         for line in [
             "ods1 judge IMAGE",
-            "ods1 ls [--past-end] IMAGE [DIRECTORY]",
+            "ods1 ls IMAGE [DIRECTORY]",
             "ods1 map [--svg OUT] [--force] IMAGE FILE",
             "ods1 extend {-o NEW | --in-place} [--force] IMAGE FILE COUNT",
         ] {

@@ -69,7 +69,7 @@ pub fn explain(refused: Refused) -> Explained {
         Refusal::Chain => ("A link from one of the file's headers to the next is bad".into(), OTHER_COPY),
         Refusal::Vbn => ("The file has no such block".into(), "Use ods1 map to see which VBNs the file has."),
         Refusal::Name => ("This is not a proper name: 1 to 9 capitals or digits, a dot, a type of at most 3, and a version from 1 to 32,767".into(), "Give the name as NAME.TYP;V, for example READS.DAT;1."),
-        Refusal::Absent => ("The directory has no such entry".into(), "Use ods1 ls to see which entries it has; ods1 ls --past-end also shows what stands behind its end."),
+        Refusal::Absent => ("The directory has no such entry".into(), "Use ods1 ls to see which entries it has."),
         Refusal::Work => ("A work area is too short for this volume".into(), "This is a fault of the program: please report it."),
         Refusal::Files => (format!("File number {place} is the lowest whose header is damaged, missing or not what its number asks for"), OTHER_COPY),
         Refusal::Links => (format!("File number {place} is the lowest whose link to an extension header is bad, or that is linked to wrongly"), OTHER_COPY),

@@ -41,13 +41,11 @@ from ._calls import (
     look_up,
     map,
     name_to_text,
-    next_past_end,
     next_record,
     open_file,
     open_volume,
     pointer,
     records,
-    records_past_end,
     text_to_name,
 )
 from ._lending import Image, WritableImage
@@ -100,12 +98,10 @@ __all__ = [
     "look_up",
     "map",
     "name_to_text",
-    "next_past_end",
     "next_record",
     "open_file",
     "open_volume",
     "pointer",
     "records",
-    "records_past_end",
     "text_to_name",
 ]

@@ -3,7 +3,7 @@
 from __future__ import annotations
 
 import struct
-from typing import Callable, Final, Iterator, Sequence, Tuple
+from typing import Final, Iterator, Sequence, Tuple
 
 from ._answer import Refused
 from ._exported import call
@@ -35,21 +35,6 @@ def _id_of(value: Sequence[int]) -> FileId:
 
 def _name_of(value: Sequence[int]) -> Name:
     return Name((value[0], value[1], value[2], value[3], value[4]))
-
-
-def _record_of(value: Sequence[int]) -> Tuple[Record, int]:
-    return Record(id=_id_of(value), name=_name_of(value[3:])), value[8]
-
-
-def _walk(step: Callable[[int], Tuple[Record, int]]) -> Iterator[Record]:
-    """The records that a call gives from place to place, until it is refused."""
-    place = 0
-    while True:
-        try:
-            record, place = step(place)
-        except Refused:
-            return
-        yield record
 
 
 def text_to_name(text: str) -> Name:
@@ -93,11 +78,10 @@ def look_up(image: Image, directory: FileId, name: Name) -> FileId:
 def next_record(image: Image, directory: FileId, place: int) -> Tuple[Record, int]:
     """The first record of a directory from a place on, and the place to go on from.
 
-    Only records below the directory's end are read: none where its attributes give no
-    end. Records that are empty are stepped over.
+    Records that are empty are stepped over.
     """
     value = call("ods1_next_record", image, *_words_of(directory), place)
-    return _record_of(value)
+    return Record(id=_id_of(value), name=_name_of(value[3:])), value[8]
 
 
 def records(image: Image, directory: FileId) -> Iterator[Record]:
@@ -105,25 +89,13 @@ def records(image: Image, directory: FileId) -> Iterator[Record]:
 
     None where the directory does not open.
     """
-    return _walk(lambda place: next_record(image, directory, place))
-
-
-def next_past_end(image: Image, directory: FileId, place: int) -> Tuple[Record, int]:
-    """As `next_record`, of the records past the directory's end.
-
-    One that the end cuts through is among them. No look-up finds these. Where the
-    directory does not open, the refusal says why.
-    """
-    value = call("ods1_next_past_end", image, *_words_of(directory), place)
-    return _record_of(value)
-
-
-def records_past_end(image: Image, directory: FileId) -> Iterator[Record]:
-    """The records past a directory's end that are not empty, in order.
-
-    None where the directory does not open.
-    """
-    return _walk(lambda place: next_past_end(image, directory, place))
+    place = 0
+    while True:
+        try:
+            record, place = next_record(image, directory, place)
+        except Refused:
+            return
+        yield record
 
 
 def judge(image: Image, areas: WorkAreas) -> Counts:

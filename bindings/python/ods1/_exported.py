@@ -76,7 +76,6 @@ DECLARED: Final[Dict[str, Tuple[Argument, ...]]] = {
     "ods1_block": (_IMAGE, *_ID, _VBN),
     "ods1_look_up": (_IMAGE, *_ID, *_NAME),
     "ods1_next_record": (_IMAGE, *_ID, _PLACE),
-    "ods1_next_past_end": (_IMAGE, *_ID, _PLACE),
     "ods1_judge": (_IMAGE, *_AREAS),
     "ods1_create": (_CHANGED, *_NAME, *_RIGHTS, *_AREAS),
     "ods1_extend": (_CHANGED, *_ID, Number("count", LONG), *_AREAS),

@@ -34,14 +34,6 @@ fn name_of(value: &[u64]) -> Name {
     Name([0, 1, 2, 3, 4].map(|place: usize| word(value[place])))
 }
 
-fn record_of(value: [u64; 10]) -> (Record, u32) {
-    let record = Record {
-        id: id_of(&value),
-        name: name_of(&value[3..]),
-    };
-    (record, long(value[8]))
-}
-
 fn extent_of(value: [u64; 10]) -> Extent {
     Extent {
         lbn: long(value[0]),
@@ -98,33 +90,21 @@ pub fn look_up(image: &[u8], directory: FileId, name: Name) -> Answer<FileId> {
 }
 
 /// The first record of a directory that is not empty, from a place on, and the place to go on from.
-/// Only records below the directory's end are read: none where its attributes give no end.
 pub fn next_record(image: &[u8], directory: FileId, place: u32) -> Answer<(Record, u32)> {
-    answer_of(|answer| words::next_record(image, directory.words(), place, answer)).map(record_of)
+    let value = answer_of(|answer| words::next_record(image, directory.words(), place, answer))?;
+    let record = Record {
+        id: id_of(&value),
+        name: name_of(&value[3..]),
+    };
+    Ok((record, long(value[8])))
 }
 
 /// The records of a directory that are not empty, in order; none where it does not open.
 pub fn records(image: &[u8], directory: FileId) -> impl Iterator<Item = Record> + '_ {
-    walk(move |place| next_record(image, directory, place))
-}
-
-/// As [`next_record`], of the records past the directory's end, one that the end cuts through among
-/// them. No look-up finds these. Where the directory does not open, the refusal says why.
-pub fn next_past_end(image: &[u8], directory: FileId, place: u32) -> Answer<(Record, u32)> {
-    answer_of(|answer| words::next_past_end(image, directory.words(), place, answer)).map(record_of)
-}
-
-/// The records past a directory's end that are not empty, in order; none where it does not open.
-pub fn records_past_end(image: &[u8], directory: FileId) -> impl Iterator<Item = Record> + '_ {
-    walk(move |place| next_past_end(image, directory, place))
-}
-
-/// The records that a call gives from place to place, from 0 on, until it is refused.
-fn walk(next: impl Fn(u32) -> Answer<(Record, u32)>) -> impl Iterator<Item = Record> {
     let mut place = 0;
     std::iter::from_fn(move || {
-        let (record, behind) = next(place).ok()?;
-        place = behind;
+        let (record, next) = next_record(image, directory, place).ok()?;
+        place = next;
         Some(record)
     })
 }
@@ -275,52 +255,7 @@ mod tests {
         assert_eq!(judge(&[], &mut areas).unwrap_err().refusal, Refusal::Size);
         assert_eq!(areas.blocks.len(), 0);
         assert_eq!(records(&[], FileId::MASTER).count(), 0);
-        assert_eq!(records_past_end(&[], FileId::MASTER).count(), 0);
         assert_eq!(free_runs(&[0; crate::BLOCK]).count(), 0);
-    }
-
-    /// Volume V with a record at place 7 of its directory, which ends behind place 0.
-    fn with_past_end(record: Record) -> Vec<u8> {
-        let mut image = include_bytes!("../../../samples/volume-v.dsk").to_vec();
-        let words = record.id.words().into_iter().chain(record.name.0);
-        let bytes = &mut image[21 * crate::BLOCK + 7 * 16..];
-        for (pair, word) in bytes.chunks_exact_mut(2).zip(words) {
-            pair.copy_from_slice(&word.to_le_bytes());
-        }
-        image
-    }
-
-    #[test]
-    fn records_past_the_end_are_no_entries() {
-        let record = Record {
-            id: FileId::of(65_535, 10, 1),
-            name: Name([29001, 7160, 0, 6460, 2]),
-        };
-        let (image, master) = (with_past_end(record), FileId::MASTER);
-        assert_eq!(next_past_end(&image, master, 0), Ok((record, 8)));
-        let refused = next_past_end(&image, master, 8).unwrap_err();
-        assert_eq!(refused.refusal, Refusal::Absent);
-        assert!(records_past_end(&image, master).eq([record]));
-        assert!(records(&image, master).eq([Record {
-            id: FileId::of(6, 9, 0),
-            name: record.name.with_version(1),
-        }]));
-        let refused = look_up(&image, master, record.name).unwrap_err();
-        assert_eq!(refused.refusal, Refusal::Absent);
-    }
-
-    #[test]
-    fn a_directory_that_does_not_open_has_nothing_past_its_end() {
-        let image = include_bytes!("../../../samples/volume-v.dsk");
-        for (id, refusal) in [
-            (FileId::of(4, 5, 0), Refusal::Sequence),
-            (FileId::of(7, 1, 0), Refusal::Number),
-            (FileId::of(4, 4, 1), Refusal::Relvol),
-        ] {
-            let refused = next_past_end(image, id, 0).unwrap_err();
-            assert_eq!(refused.refusal, refusal);
-            assert_eq!(records_past_end(image, id).count(), 0);
-        }
     }
 
     #[test]

@@ -59,16 +59,6 @@ extern "C" {
         answer: *mut Words,
     );
 
-    pub fn ods1_next_past_end(
-        image: *const u8,
-        image_len: usize,
-        number: u16,
-        sequence: u16,
-        volume: u16,
-        place: u32,
-        answer: *mut Words,
-    );
-
     pub fn ods1_judge(
         image: *const u8,
         image_len: usize,

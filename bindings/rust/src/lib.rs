@@ -28,8 +28,8 @@ pub mod words;
 pub use answer::{Answer, Refusal, Refused};
 pub use calls::{
     attributes, block, create, delete, extend, extent, free_run, free_runs, geometry, header,
-    judge, label, look_up, map, name_to_text, next_past_end, next_record, open_file, open_volume,
-    pointer, records, records_past_end, text_to_name,
+    judge, label, look_up, map, name_to_text, next_record, open_file, open_volume, pointer,
+    records, text_to_name,
 };
 pub use types::{
     Attributes, Counts, Extent, FileId, Geometry, Header, Label, Name, NotAnId, Record, WorkAreas,

@@ -65,12 +65,6 @@ pub fn next_record(image: &[u8], id: [u16; 3], place: u32, answer: &mut Words) {
     unsafe { kinds::of_file_and_place(exported::ods1_next_record, image, id, place, answer) }
 }
 
-/// `ods1_next_past_end`: as `ods1_next_record`, of the records past the directory's end.
-pub fn next_past_end(image: &[u8], id: [u16; 3], place: u32, answer: &mut Words) {
-    // SAFETY: as above.
-    unsafe { kinds::of_file_and_place(exported::ods1_next_past_end, image, id, place, answer) }
-}
-
 /// `ods1_judge`: the verdict's four counts (blocks, claimed, free, headers), with work areas for the
 /// marks of blocks and of headers.
 pub fn judge(image: &[u8], blocks: &mut [u8], headers: &mut [u8], answer: &mut Words) {

@@ -9,9 +9,8 @@ use Rattle.lists.specs.Lists.{numbers_from}
 use Rattle.lists.proofs.NumbersLaws.{numbers_from-length, numbers_from-at}
 use Rattle.lists.specs.First.{first}
 use Rattle.lists.proofs.FirstLaws.{first-has, first-none, first_found, first_past, first-shift, first-same}
-use Rattle.image.specs.Blocks.{block, region}
+use Rattle.image.specs.Blocks.{region}
 use Rattle.image.proofs.BlockLaws.{block-region}
-use Rattle.header.specs.Attributes.{directory_end}
 use Rattle.pointers.specs.Pointers.{pointer_lbn, pointer_count, runs, pointers_at, pointers, blocks_of}
 use Rattle.pointers.proofs.PointerLaws.{runs-length, runs-le, runs-at}
 use Rattle.whole.proofs.WholeLaws.{whole_is}
@@ -19,7 +18,7 @@ use Rattle.records.specs.Records.{wanted_in}
 use Rattle.records.proofs.RecordLaws.{record-block}
 use Rattle.records.specs.declared.Wanted.{Wanted}
 use Rattle.home.specs.Home.{blocks}
-use Rattle.volume.specs.Volume.{slot, header, fault_of}
+use Rattle.volume.specs.Volume.{header, fault_of}
 use Rattle.volume.specs.declared.Volume.{Volume}
 use Rattle.volume.proofs.VolumeLaws.{opens}
 use Rattle.chains.specs.Chains.{file_blocks}
@@ -140,14 +139,10 @@ module _ (image lbns : List ℕ) (k : ℕ) (part : List ℕ) (p : Part lbns k pa
 pub block_inside : (image : List ℕ) (v : Volume) (at : List ℕ) (n : ℕ) → FileOpen image v at n → (i : ℕ) → i < length (file_blocks image n) → 512 * get_or (file_blocks image n) i 0 + 512 ≤ length image
 block_inside image v at n (o, first, good) i l = omega (arith, (opens image o.0).size, file-below image n first good i l)
 
--- The directory's records are counted by its first header, which lies in the slot of its number.
-pub records-count :
-    (image : List ℕ) (n : ℕ) (h : List ℕ) (lbn size count : ℕ) → h ≡ block image lbn → lbn ≡ slot image n → size ≡ length (file_blocks image n)
-    → count ≡ min (directory_end h) (512 * size) / 16 → count ≡ record_count image n
-unfolding record_count header
-records-count image n h lbn size count is at all e = rw (e, is, at, all)
-
--- They lie in its blocks.
-pub records-inside : (image : List ℕ) (n : ℕ) → record_count image n ≤ 32 * length (file_blocks image n)
+-- The directory's records lie in its blocks.
+pub records-count : (image : List ℕ) (n : ℕ) → record_count image n ≡ 32 * length (file_blocks image n)
 unfolding record_count
-records-inside image n = omega arith
+records-count image n = refl
+
+pub records-inside : (image : List ℕ) (n : ℕ) → record_count image n ≤ 32 * length (file_blocks image n)
+records-inside image n = omega (arith, records-count image n)

@@ -2,28 +2,25 @@
 use Rattle.std.specs.Prelude.{◌≡◌, Bool, true, cond, List, [], ◌∷◌, ℕ, zero, suc, ◌+◌, ◌*◌, ◌-◌, ◌/◌, ◌%◌, min, ◌≤◌, ◌<◌, length, get_or}
 use Rattle.lists.specs.First.{first}
 use Rattle.image.specs.Blocks.{block}
-use Rattle.header.specs.Attributes.{directory_end}
 use Rattle.pointers.specs.Pointers.{pointer_lbn, pointer_count, pointers_at, pointers}
 use Rattle.records.specs.Records.{record_in, entry_of, is_empty, is_wanted}
 use Rattle.records.specs.declared.Entry.{Entry}
 use Rattle.records.specs.declared.Wanted.{Wanted}
 use Rattle.home.specs.Home.{blocks}
-use Rattle.volume.specs.Volume.{header}
 use Rattle.volume.specs.Opening.{Recorded}
 use Rattle.volume.specs.declared.Volume.{Volume}
 use Rattle.chains.specs.Chains.{good_chain, IsFirst, file_blocks}
 
--- 01, Names and directories: "A directory record has 16 bytes". Record r, from 0, of the blocks in a list of LBNs, 32 a block, "in VBN order".
+-- 01, Names and directories: "Every mapped block holds 32 records." Record r, from 0, of the blocks in a list of LBNs, "in VBN order".
 unfoldable pub entry_at : List ℕ → List ℕ → ℕ → Entry
 entry_at image lbns r = entry_of (record_in (block image (get_or lbns (r / 32) 0)) (r % 32))
 
 unfoldable pub wanted_at : List ℕ → List ℕ → Wanted → ℕ → Bool
 wanted_at image lbns w r = is_wanted w (entry_at image lbns r)
 
--- How many records the directory has whose first header has number n. 02, 1/14: "Records are the whole 16-byte ones below" the end that the first header
--- gives, "or below the mapped end if that is less".
+-- How many records the directory has whose first header has number n.
 unfoldable pub record_count : List ℕ → ℕ → ℕ
-record_count image n = min (directory_end (header image n)) (512 * length (file_blocks image n)) / 16
+record_count image n = 32 * length (file_blocks image n)
 
 -- 01, Names and directories: "the first equal record not empty, in VBN order", and the walker's "next record". The first record wanted of those,
 -- from one place to before another, that the blocks in a list of LBNs hold; where there is none, the place where these end.

@@ -1,7 +1,6 @@
 // The search through the records of a directory.
-ghost use Rattle.std.specs.Prelude.{◌≡◌, ◌+◌, ◌*◌, ◌/◌, ◌≤◌, ◌<◌, min, length};
+ghost use Rattle.std.specs.Prelude.{◌≡◌, ◌+◌, ◌*◌, ◌≤◌, ◌<◌, length};
 ghost use Rattle.lists.specs.Lists.{numbers_from};
-ghost use Rattle.header.specs.Attributes.{directory_end};
 ghost use Rattle.pointers.specs.Pointers.{Fits, blocks_of};
 ghost use Rattle.volume.specs.Volume.{slot};
 ghost use Rattle.chains.specs.Chains.{file_blocks};
@@ -9,7 +8,6 @@ ghost use Rattle.directory.specs.Search.{entry_of_file, search_in, Inside, FileO
 
 use answer::types::{FileNumber, Lbn};
 use chains::{lbn_at, next_header};
-use header::attributes::directory_end;
 use header::fields::m_efnu;
 use image::blocks::{block, region};
 use image::numbers::least;
@@ -89,17 +87,12 @@ pub fn search_file(
     }
 }
 
-// How many records a directory of so many blocks has whose first header is h. A chain has at most 256 headers of 32,512 blocks, so the number fits.
-pub fn record_count(h: &[u8], blocks: u32) -> u32
-    requires { (length h.now ≡ 512) × (blocks ≤ 8323072) }
-    ensures { result ≡ min (directory_end h.now) (512 * blocks) / 16 }
+// How many records a file of so many blocks has. A chain has at most 256 headers of 32,512 blocks, so the number fits.
+pub fn record_count(blocks: u32) -> u32
+    requires { blocks ≤ 8323072 }
+    ensures { result ≡ 32 * blocks }
 {
-    let end = directory_end(h);
-    let all = 512 * (blocks as u64);
-    if end <= all {
-        return (end / 16) as u32;
-    }
-    (all / 16) as u32
+    32 * blocks
 }
 
 // The entry in record r of the file whose first header has a number and lies at an LBN.

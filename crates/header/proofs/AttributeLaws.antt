@@ -3,7 +3,7 @@ use mathlib.Core.Path.{◌≡◌}
 use mathlib.Core.List.{List}
 use Prim.Native.Nat.{ℕ, ◌*◌, min}
 use borrow.Author.Tests.{eq-eqb, ne_eqb}
-use Rattle.header.specs.Attributes.{f_efbk, end_byte, end_of, directory_end}
+use Rattle.header.specs.Attributes.{f_efbk, end_byte, end_of}
 
 module _ (h : List ℕ) (count : ℕ) where
   pub end_none : f_efbk h ≡ 0 → end_of h count ≡ 512 * count
@@ -13,12 +13,3 @@ module _ (h : List ℕ) (count : ℕ) where
   pub end-given : (f_efbk h ≡ 0 → ⊥) → end_of h count ≡ min (end_byte h) (512 * count)
   unfolding end_of
   end-given e = rw (ne_eqb (f_efbk h) 0 e)
-
-module _ (h : List ℕ) where
-  pub directory-none : f_efbk h ≡ 0 → directory_end h ≡ 0
-  unfolding directory_end
-  directory-none e = rw (eq-eqb (f_efbk h) 0 e)
-
-  pub directory-given : (f_efbk h ≡ 0 → ⊥) → directory_end h ≡ end_byte h
-  unfolding directory_end
-  directory-given e = rw (ne_eqb (f_efbk h) 0 e)

@@ -22,8 +22,7 @@ unfoldable pub f_ffby : List ℕ → ℕ
 f_ffby h = word_at h 26
 
 -- The end of file: how many bytes lie before it. 000, 6.1.5 and 6.1.6: it lies in VBN F.EFBK, and F.FFBY is "the number of bytes in use in the virtual
--- block containing the end of file". Where F.EFBK is 0, which no VBN is, this says nothing, and each that asks has a rule of its own: a file's bytes
--- (`end_of`) and a directory's records (`directory_end`).
+-- block containing the end of file". Where F.EFBK is 0, which no VBN is, this says nothing, and each that asks has a rule of its own.
 unfoldable pub end_byte : List ℕ → ℕ
 end_byte h = 512 * (f_efbk h - 1) + f_ffby h
 
@@ -31,8 +30,3 @@ end_byte h = 512 * (f_efbk h - 1) + f_ffby h
 -- where F.EFBK is 0 the attributes give no end and all blocks count.
 unfoldable pub end_of : List ℕ → ℕ → ℕ
 end_of h count = cond (eqb (f_efbk h) 0) (512 * count) (min (end_byte h) (512 * count))
-
--- The end of a directory whose first header is h: its records lie in so many bytes, as far as it maps them. 02, 1/14: "Records are the whole 16-byte ones
--- below (block−1)·512 + first free byte ..; block 0 means none."
-unfoldable pub directory_end : List ℕ → ℕ
-directory_end h = cond (eqb (f_efbk h) 0) 0 (end_byte h)

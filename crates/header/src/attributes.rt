@@ -1,7 +1,7 @@
 // The attributes that FCS keeps in a first header, and the end of file that they give.
 ghost use Rattle.std.specs.Prelude.{◌≡◌, ◌+◌, ◌*◌, ◌<◌, length};
 ghost use Rattle.image.specs.Words.{word_at};
-ghost use Rattle.header.specs.Attributes.{f_efbk, end_byte, end_of, directory_end};
+ghost use Rattle.header.specs.Attributes.{f_efbk, end_byte, end_of};
 
 use answer::types::Vbn;
 use image::words::word_at;
@@ -41,15 +41,4 @@ pub fn end_of(h: &[u8], count: u32) -> u64
     }
     let end = end_byte(h);
     if end <= all { end } else { all }
-}
-
-// The end of a directory whose first header is h: its records lie in so many bytes.
-pub fn directory_end(h: &[u8]) -> u64
-    requires { length h.now ≡ 512 }
-    ensures { result ≡ directory_end h.now }
-{
-    if f_efbk(h).0 == 0 {
-        return 0;
-    }
-    end_byte(h)
 }

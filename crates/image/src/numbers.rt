@@ -1,5 +1,5 @@
 // Numbers of one width and another.
-ghost use Rattle.std.specs.Prelude.{◌≡◌, ◌<◌, min, max};
+ghost use Rattle.std.specs.Prelude.{◌≡◌, ◌<◌, min};
 
 // A byte's value.
 pub fn wide(x: u8) -> u32
@@ -13,11 +13,4 @@ pub fn least(a: u32, b: u32) -> u32
     ensures { result ≡ min a b }
 {
     if a <= b { a } else { b }
-}
-
-// The greater of two numbers.
-pub fn most(a: u32, b: u32) -> u32
-    ensures { result ≡ max a b }
-{
-    if a <= b { b } else { a }
 }

@@ -1,19 +1,16 @@
-// The calls on a directory: look-up by name, the next record, and the next record past the end.
-ghost use Rattle.std.specs.Prelude.{◌≡◌, ◌*◌, ◌≤◌, length};
+// The two calls on a directory: look-up by name, and the next record.
+ghost use Rattle.std.specs.Prelude.{◌≡◌};
 ghost use Rattle.answer.specs.declared.outcome.Outcome.TheVariants.{Passed};
 ghost use Rattle.volume.specs.Volume.{slot, volume_of, places_of};
-ghost use Rattle.chains.specs.Chains.{file_blocks};
 ghost use Rattle.open_file.specs.Opening.{open_file};
 ghost use Rattle.directory.specs.Search.{record_count};
-ghost use Rattle.look_up.specs.LookUp.{look_up_answer, next_record_answer, next_before, next_past_end_answer};
+ghost use Rattle.look_up.specs.LookUp.{look_up_answer, next_record_answer};
 
 use answer::answers::IdAnswer;
 use answer::outcome::Outcome;
 use answer::refusal::Refusal;
 use answer::types::{FileId, FileNumber, Lbn, Name};
 use directory::{entry_of_file, record_count, search_file};
-use image::blocks::block;
-use image::numbers::most;
 use open_file::open;
 use records::{Entry, Wanted};
 use volume::{Places, Volume};
@@ -68,7 +65,7 @@ pub fn look_up(image: &[u8], id: FileId, name: Name) -> IdAnswer
             &places,
             id,
             file.header,
-            record_count(block(image, file.header), file.blocks),
+            record_count(file.blocks),
             name,
         ),
         Outcome::Refused(r) => IdAnswer::Refused(r),
@@ -83,25 +80,25 @@ pub enum NextRecordAnswer {
     Refused(Refusal),
 }
 
-// In a directory that opens, a step among the records of its blocks that lie before a place: ABSENT.
+// A step in a directory that opens, of so many records: ABSENT.
 fn next_opened(
     image: &[u8],
     v: Volume,
     places: &Places,
     id: FileId,
     lbn: Lbn,
-    to: u32,
+    count: u32,
     place: u32,
 ) -> NextRecordAnswer
-    requires { (open_file image.now id ≡ Passed) × (v ≡ volume_of image.now) × (to ≤ 32 * length (file_blocks image.now id.number)) × (lbn.0 ≡ slot image.now id.number) × (places.now ≡ places_of image.now) }
-    ensures { result ≡ next_before image.now id.number to place }
+    requires { (open_file image.now id ≡ Passed) × (v ≡ volume_of image.now) × (count ≡ record_count image.now id.number) × (lbn.0 ≡ slot image.now id.number) × (places.now ≡ places_of image.now) }
+    ensures { result ≡ next_record_answer image.now id place }
 {
-    if to <= place {
+    if count <= place {
         return NextRecordAnswer::Refused(Refusal::Absent);
     }
     let n = FileNumber(id.number as u32);
-    let r = search_file(image, v, places, n, lbn, place, to, Wanted::Any);
-    if to <= r {
+    let r = search_file(image, v, places, n, lbn, place, count, Wanted::Any);
+    if count <= r {
         return NextRecordAnswer::Refused(Refusal::Absent);
     }
     let e = entry_of_file(image, v, places, n, lbn, r);
@@ -122,30 +119,9 @@ pub fn next_record(image: &[u8], id: FileId, place: u32) -> NextRecordAnswer
             &places,
             id,
             file.header,
-            record_count(block(image, file.header), file.blocks),
+            record_count(file.blocks),
             place,
         ),
         Outcome::Refused(_) => NextRecordAnswer::Refused(Refusal::Absent),
-    }
-}
-
-// The next record past the directory's end that is not empty, from a place on; ABSENT where there is none.
-pub fn next_past_end(image: &[u8], id: FileId, place: u32) -> NextRecordAnswer
-    ensures { result ≡ next_past_end_answer image.now id place }
-{
-    let mut places = [0u32; 256];
-    let file = open(image, &mut places, id);
-    let outcome = file.outcome;
-    match outcome {
-        Outcome::Passed => next_opened(
-            image,
-            file.volume,
-            &places,
-            id,
-            file.header,
-            32 * file.blocks,
-            most(place, record_count(block(image, file.header), file.blocks)),
-        ),
-        Outcome::Refused(r) => NextRecordAnswer::Refused(r),
     }
 }

@@ -1,6 +1,6 @@
-// Directories: looking a name up, the next record, and the next record past the end.
+// Directories: looking a name up, and the next record.
 ghost use Rattle.std.specs.Prelude.{◌≡◌};
-ghost use Rattle.look_up.specs.LookUp.{look_up_answer, next_record_answer, next_past_end_answer};
+ghost use Rattle.look_up.specs.LookUp.{look_up_answer, next_record_answer};
 ghost use Rattle.answer_words.specs.Words.{id_words};
 ghost use Rattle.directory_words.specs.Words.{next_record_words};
 ghost use Rattle.ods1.specs.Arguments.{id_of, of_words};
@@ -8,7 +8,7 @@ ghost use Rattle.ods1.specs.Arguments.{id_of, of_words};
 use answer::types::{FileId, Name};
 use answer_words::put_id;
 use directory_words::put_next_record;
-use look_up::{look_up, next_past_end, next_record};
+use look_up::{look_up, next_record};
 
 // The ID that a directory has under a name, as it is stored.
 #[unsafe(no_mangle)]
@@ -57,30 +57,6 @@ pub extern "C" fn ods1_next_record(
     ensures { answer.new ≡ next_record_words (next_record_answer image.now (id_of number sequence volume) place) }
 {
     let result = next_record(
-        image,
-        FileId {
-            number,
-            sequence,
-            volume,
-        },
-        place,
-    );
-    put_next_record(answer, result);
-}
-
-// The next record past the end of a directory that is not empty, from a place on, and the place to go on from.
-#[unsafe(no_mangle)]
-pub extern "C" fn ods1_next_past_end(
-    image: &[u8],
-    number: u16,
-    sequence: u16,
-    volume: u16,
-    place: u32,
-    answer: &mut [u64; 12],
-)
-    ensures { answer.new ≡ next_record_words (next_past_end_answer image.now (id_of number sequence volume) place) }
-{
-    let result = next_past_end(
         image,
         FileId {
             number,

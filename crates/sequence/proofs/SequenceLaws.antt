@@ -13,8 +13,8 @@ use Rattle.open_file.specs.Opening.{anyone, open_file_answer}
 use Rattle.mapping.specs.Mapping.{map_answer}
 use Rattle.open_file.proofs.OpeningLaws.{Refuses, refuses}
 use Rattle.mapping.proofs.MappingLaws.{map-refused}
-use Rattle.look_up.specs.LookUp.{look_up_answer, next_record_answer, next_past_end_answer}
-use Rattle.look_up.proofs.LookUpLaws.{look-refused, next-refused, past-refused}
+use Rattle.look_up.specs.LookUp.{look_up_answer, next_record_answer}
+use Rattle.look_up.proofs.LookUpLaws.{look-refused, next-refused}
 use Rattle.file_facts.specs.Files.{attributes_answer}
 use Rattle.file_facts.proofs.FileLaws.{attributes-refused}
 use Rattle.extents.specs.Extents.{extent_answer}
@@ -47,9 +47,6 @@ module _ (image : List ℕ) (id : FileId) (other : OtherSequence image id) where
   next-record-asked : (place : ℕ) → IsRefused (next_record_words (next_record_answer image id place))
   next-record-asked place = rw (next-refused image id place opens.why opens.is) (refused-number refusal.Absent)
 
-  next-past-end-asked : (place : ℕ) → IsRefused (next_record_words (next_past_end_answer image id place))
-  next-past-end-asked place = rw (past-refused image id place opens.why opens.is) (refused-number opens.why)
-
   attributes-asked : IsRefused (attributes_words (attributes_answer image id))
   attributes-asked = rw (← attributes-refused image id opens.why opens.is) (refused-number opens.why)
 
@@ -79,7 +76,6 @@ sequence-asked = record {
   block = λ image id vbn other. block-asked image id other vbn;
   look_up = λ image id name other. look-up-asked image id other name;
   next-record = λ image id place other. next-record-asked image id other place;
-  next-past-end = λ image id place other. next-past-end-asked image id other place;
   attributes = attributes-asked;
   extent = λ image id vbn other. extent-asked image id other vbn;
   extend = λ image id count b h other. extend-asked image id other count b h;

@@ -7,7 +7,7 @@ use Rattle.header.specs.Fields.{h_fseq}
 use Rattle.volume.specs.Volume.{header}
 use Rattle.open_file.specs.Opening.{open_file_answer}
 use Rattle.mapping.specs.Mapping.{map_answer}
-use Rattle.look_up.specs.LookUp.{look_up_answer, next_record_answer, next_past_end_answer}
+use Rattle.look_up.specs.LookUp.{look_up_answer, next_record_answer}
 use Rattle.file_facts.specs.Files.{attributes_answer}
 use Rattle.extents.specs.Extents.{extent_answer}
 use Rattle.update.specs.Extend.{extend_answer}
@@ -31,7 +31,6 @@ pub record SequenceAsked : Type 0 where
   pub block : (image : List ℕ) (id : FileId) (vbn : ℕ) → OtherSequence image id → IsRefused (block_words (map_answer image id vbn))
   pub look_up : (image : List ℕ) (id : FileId) (name : Name) → OtherSequence image id → IsRefused (id_words (look_up_answer image id name))
   pub next-record : (image : List ℕ) (id : FileId) (place : ℕ) → OtherSequence image id → IsRefused (next_record_words (next_record_answer image id place))
-  pub next-past-end : (image : List ℕ) (id : FileId) (place : ℕ) → OtherSequence image id → IsRefused (next_record_words (next_past_end_answer image id place))
   pub attributes : (image : List ℕ) (id : FileId) → OtherSequence image id → IsRefused (attributes_words (attributes_answer image id))
   pub extent : (image : List ℕ) (id : FileId) (vbn : ℕ) → OtherSequence image id → IsRefused (run_words (extent_answer image id vbn))
   pub extend : (image : List ℕ) (id : FileId) (count b h : ℕ) → OtherSequence image id → IsRefused (lbn_words (extend_answer image id count b h))

@@ -1,8 +1,7 @@
-// Runs the worked examples of 01 that are not marked P, those of extend that are, and a record behind the end of a directory (02, 1/14), and prints each
-// answer. Volume V is read from standard input.
+// Runs the worked examples of 01 that are not marked P, and those of extend that are, and prints each answer. Volume V is read from standard input.
 use libc::{STDIN_FILENO, STDOUT_FILENO};
 use ods1::changes::{ods1_create, ods1_delete, ods1_extend};
-use ods1::directories::{ods1_look_up, ods1_next_past_end, ods1_next_record};
+use ods1::directories::{ods1_look_up, ods1_next_record};
 use ods1::files::{ods1_block, ods1_map, ods1_open_file};
 use ods1::verdicts::ods1_judge;
 use ods1::volumes::ods1_open_volume;
@@ -87,13 +86,11 @@ fn block(image: &[u8], number: u16, sequence: u16, vbn: u32) {
     show(&answer);
 }
 
-// Looks a version of READS.DAT up in the directory 4,4.
-fn look_up(image: &[u8], version: u16) {
+// Looks READS.DAT;1 up in the directory 4,4.
+fn look_up(image: &[u8]) {
     let mut answer = [0u64; 12];
-    ods1_look_up(image, 4, 4, 0, 29001, 7160, 0, 6460, version, &mut answer);
-    say(b"look up READS.DAT;");
-    tell(version as u64);
-    say(b" in 4,4,0");
+    ods1_look_up(image, 4, 4, 0, 29001, 7160, 0, 6460, 1, &mut answer);
+    say(b"look up READS.DAT;1 in 4,4,0");
     show(&answer);
 }
 
@@ -101,14 +98,6 @@ fn next_record(image: &[u8], place: u32) {
     let mut answer = [0u64; 12];
     ods1_next_record(image, 4, 4, 0, place, &mut answer);
     say(b"next record in 4,4,0 from ");
-    tell(place as u64);
-    show(&answer);
-}
-
-fn next_past_end(image: &[u8], place: u32) {
-    let mut answer = [0u64; 12];
-    ods1_next_past_end(image, 4, 4, 0, place, &mut answer);
-    say(b"next record past the end of 4,4,0 from ");
     tell(place as u64);
     show(&answer);
 }
@@ -141,30 +130,9 @@ fn covers(image: &[u8]) {
 }
 
 fn directory(image: &[u8]) {
-    look_up(image, 1);
+    look_up(image);
     next_record(image, 0);
     next_record(image, 1);
-    next_past_end(image, 0);
-}
-
-// Puts READS.DAT;2 to 6,9,0 into record 1 of block 21, behind the end of 4,4, which is byte 16 of its first block. It is not found; only a step past the
-// end answers it.
-fn behind_the_end(volume: [u8; 51200]) {
-    let mut image = volume;
-    image[10768] = 6;
-    image[10770] = 9;
-    image[10774] = 73;
-    image[10775] = 113;
-    image[10776] = 248;
-    image[10777] = 27;
-    image[10780] = 60;
-    image[10781] = 25;
-    image[10782] = 2;
-    look_up(&image, 1);
-    look_up(&image, 2);
-    next_record(&image, 1);
-    next_past_end(&image, 0);
-    next_past_end(&image, 2);
 }
 
 // Extends a file, with work areas of 100 and 16 bytes: as many as Volume V has blocks and file numbers.
@@ -251,7 +219,7 @@ fn old_entry(image: &mut [u8]) {
     delete(image, 6, 9);
     open_file(image, 6, 9);
     create(image);
-    look_up(image, 1);
+    look_up(image);
     open_file(image, 6, 9);
     open_file(image, 6, 10);
     extend(image, 6, 9, 1);
@@ -268,7 +236,6 @@ fn main() {
     open_volume(&image);
     covers(&image);
     directory(&image);
-    behind_the_end(image);
     let mut by4 = image;
     extend_and_judge(&mut by4, 4);
     let mut by67 = image;

@@ -49,11 +49,6 @@ calls! {
     plain::map, of_file_and_place => map(image: &[u8], id: [u16; 3], vbn: u32);
     plain::look_up, look_up => look_up(image: &[u8], id: [u16; 3], name: [u16; 5]);
     plain::next_record, of_file_and_place => next_record(image: &[u8], id: [u16; 3], place: u32);
-    plain::next_past_end, of_file_and_place => next_past_end(
-        image: &[u8],
-        id: [u16; 3],
-        place: u32
-    );
     plain::judge, judge => judge(image: &[u8], blocks: &mut [u8], headers: &mut [u8]);
     writing::create, create => create(
         image: &mut [u8],

@@ -8,7 +8,6 @@ use ods1::kinds::{
     Create, Delete, Extend, Judge, LookUp, OfFile, OfFileAndPlace, OfImage, OfNumber,
     OfNumberAndPlace, OfPlace,
 };
-use ods1::words::Words;
 use std::ffi::{c_char, c_int, c_void, CStr, CString};
 use std::fs;
 use std::mem;
@@ -36,8 +35,6 @@ pub struct Loaded {
     pub map: OfFileAndPlace,
     pub look_up: LookUp,
     pub next_record: OfFileAndPlace,
-    /// The library from before 02 (1/14) does not have it.
-    pub next_past_end: OfFileAndPlace,
     pub judge: Judge,
     pub create: Create,
     pub extend: Extend,
@@ -49,23 +46,6 @@ pub struct Loaded {
     pub attributes: OfFile,
     pub extent: OfFileAndPlace,
     pub free_run: OfPlace,
-}
-
-/// The number that is answered where a library does not have a call.
-pub const NO_CALL: u64 = u64::MAX;
-
-/// Stands in for a call that a library does not have.
-unsafe extern "C" fn no_call(
-    _: *const u8,
-    _: usize,
-    _: u16,
-    _: u16,
-    _: u16,
-    _: u32,
-    answer: *mut Words,
-) {
-    // SAFETY: the caller lends the answer's words to be written.
-    unsafe { (*answer)[0] = NO_CALL };
 }
 
 /// By how many bytes more the functions of each copy are moved: it is 16 more than four times 64, so that
@@ -128,21 +108,13 @@ impl Library {
 
     /// A function, whose kind the caller knows.
     fn function<Kind: Copy>(&self, name: &str) -> Kind {
-        let function = self.function_if_any(name);
-        function.unwrap_or_else(|| panic!("{}", Library::error()))
-    }
-
-    /// A function, whose kind the caller knows, if the library has it.
-    fn function_if_any<Kind: Copy>(&self, name: &str) -> Option<Kind> {
         assert!(mem::size_of::<Kind>() == mem::size_of::<*mut c_void>());
         let name = CString::new(format!("ods1_{name}")).expect("a name without nulls");
         // SAFETY: the library is open, and the name ends with a null.
         let symbol = unsafe { dlsym(self.0, name.as_ptr()) };
-        if symbol.is_null() {
-            return None;
-        }
+        assert!(!symbol.is_null(), "{}", Library::error());
         // SAFETY: the symbol is a function of this kind, and as large as a pointer to one.
-        Some(unsafe { mem::transmute_copy(&symbol) })
+        unsafe { mem::transmute_copy(&symbol) }
     }
 
     fn functions(&self) -> Loaded {
@@ -152,7 +124,6 @@ impl Library {
             map: self.function("map"),
             look_up: self.function("look_up"),
             next_record: self.function("next_record"),
-            next_past_end: self.function_if_any("next_past_end").unwrap_or(no_call),
             judge: self.function("judge"),
             create: self.function("create"),
             extend: self.function("extend"),

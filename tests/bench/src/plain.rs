@@ -44,11 +44,6 @@ fn word(bytes: &[u8], at: usize) -> u16 {
     u16::from_le_bytes([bytes[at], bytes[at + 1]])
 }
 
-/// Two words as one number, the high word first.
-fn long(bytes: &[u8], at: usize) -> u32 {
-    u32::from(word(bytes, at)) << 16 | u32::from(word(bytes, at + 2))
-}
-
 /// A block of an image.
 fn block(image: &[u8], lbn: u32) -> &[u8; BLOCK] {
     let start = lbn as usize * BLOCK;
@@ -148,17 +143,6 @@ impl<'a> Header<'a> {
 
     fn segment(&self) -> u8 {
         self.map[0]
-    }
-
-    /// The first byte past the end that it gives its file, if it gives one.
-    fn end(&self) -> Option<u64> {
-        let before = long(self.block, 22).checked_sub(1)?;
-        Some(BLOCK as u64 * u64::from(before) + u64::from(word(self.block, 26)))
-    }
-
-    /// How many records of its file are whole below that end, however many are mapped.
-    fn records(&self) -> u64 {
-        self.end().map_or(0, |end| end / 16)
     }
 
     /// M.EFNU and M.EFSQ.
@@ -500,20 +484,13 @@ pub fn look_up(image: &[u8], id: [u16; 3], name: [u16; 5], answer: &mut Answer) 
     }
 }
 
-/// The first record that passes a test in the blocks of some pointers, of which so many are below the end
-/// of their file; those that were come to are then taken off.
-fn find_in<'a>(
-    image: &'a [u8],
-    pointers: Pointers,
-    below: &mut u64,
-    test: impl Fn(&[u8]) -> bool,
-) -> Option<&'a [u8]> {
-    pointers.iter().find_map(|(lbn, blocks)| {
-        let records = (*below).min(32 * u64::from(blocks));
-        *below -= records;
+/// The 32 records of each block of some pointers.
+fn records<'a>(image: &'a [u8], pointers: Pointers<'a>) -> impl Iterator<Item = &'a [u8]> {
+    (0..pointers.0.len() / 4).flat_map(move |number| {
+        let pointer = Pointers(&pointers.0[4 * number..4 * number + 4]);
+        let (lbn, blocks) = pointer.iter().next().expect("one pointer");
         let start = lbn as usize * BLOCK;
-        let bytes = &image[start..start + 16 * records as usize];
-        bytes.chunks_exact(16).find(|record| test(record))
+        image[start..start + blocks as usize * BLOCK].chunks_exact(16)
     })
 }
 
@@ -525,12 +502,10 @@ fn find_name(image: &[u8], id: [u16; 3], name: [u16; 5]) -> Result<[u16; 3], Ref
         two.copy_from_slice(&word.to_le_bytes());
     }
     let mut found = None;
-    let mut below = None;
     volume.each_header(id, |header| {
-        let below = below.get_or_insert_with(|| header.records());
         if found.is_none() {
-            let equal = |record: &[u8]| record[6..] == bytes && word(record, 0) != 0;
-            found = find_in(image, header.pointers(), below, equal);
+            let equal = |record: &&[u8]| record[6..] == bytes && word(record, 0) != 0;
+            found = records(image, header.pointers()).find(equal);
         }
     })?;
     if !is_proper(name) {
@@ -570,25 +545,9 @@ fn part_length(words: &[u16]) -> Option<usize> {
 /// As `ods1_next_record`.
 #[inline(never)]
 pub fn next_record(image: &[u8], id: [u16; 3], place: u32, answer: &mut Answer) {
-    let found = find_record(image, id, |count| place..count);
-    put_record(answer, found.map_err(|_| ABSENT));
-}
-
-/// As `ods1_next_past_end`.
-#[inline(never)]
-pub fn next_past_end(image: &[u8], id: [u16; 3], place: u32, answer: &mut Answer) {
-    let found = find_record(image, id, |count| place.max(count)..u32::MAX);
-    put_record(answer, found);
-}
-
-/// A record, and its place.
-type Found<'a> = Option<(&'a [u8], u32)>;
-
-/// Writes a record and the place behind it, or a refusal.
-fn put_record(answer: &mut Answer, found: Result<Found, Refusal>) {
-    match found.and_then(|found| found.ok_or(ABSENT)) {
-        Err(number) => put(answer, Err(number)),
-        Ok((record, found)) => {
+    match find_record(image, id, place) {
+        None => put(answer, Err(ABSENT)),
+        Some((record, found)) => {
             let mut value = [0; 9];
             for (value, two) in value.iter_mut().zip(record.chunks_exact(2)) {
                 *value = word(two, 0).into();
@@ -599,31 +558,19 @@ fn put_record(answer: &mut Answer, found: Result<Found, Refusal>) {
     }
 }
 
-/// The first record that is not empty, of those mapped at some places, which the number of records below
-/// the end tells. No file has as many records as the last number of 32 bits.
-fn find_record(
-    image: &[u8],
-    id: [u16; 3],
-    wanted: impl Fn(u32) -> Range<u32>,
-) -> Result<Found<'_>, Refusal> {
+fn find_record(image: &[u8], id: [u16; 3], place: u32) -> Option<(&[u8], u32)> {
     let mut places = NO_PLACES;
-    let volume = Volume::open(image, &mut places)?;
+    let volume = Volume::open(image, &mut places).ok()?;
     let mut found = None;
-    let mut range = None;
     // The place of the first record of the next pointer.
     let mut start = 0;
     let each = |header: Header| {
-        let range: &Range<u32> = range.get_or_insert_with(|| {
-            let count = header.records().min(u32::MAX.into());
-            wanted(count as u32)
-        });
         for (lbn, blocks) in header.pointers().iter() {
             let end = start + 32 * blocks;
-            let (first, last) = (range.start.max(start), range.end.min(end));
-            if found.is_none() && first < last {
+            if found.is_none() && place < end {
+                let first = place.max(start);
                 let bytes = &image[lbn as usize * BLOCK..(lbn + blocks) as usize * BLOCK];
-                let part = 16 * (first - start) as usize..16 * (last - start) as usize;
-                let mut records = bytes[part].chunks_exact(16);
+                let mut records = bytes[16 * (first - start) as usize..].chunks_exact(16);
                 let next = records.position(|record| word(record, 0) != 0);
                 found = next.map(|next| {
                     let at = first + next as u32;
@@ -634,8 +581,8 @@ fn find_record(
             start = end;
         }
     };
-    volume.each_header(id, each)?;
-    Ok(found)
+    volume.each_header(id, each).ok()?;
+    found
 }
 
 /// As `ods1_judge`.
@@ -877,15 +824,9 @@ mod tests {
             let answer = answer_of(met, |answer| map(image, words, vbn, answer));
             assert_eq!(answer, file::answer_map(&opened, Vbn(vbn.into())).words());
         }
-        let count = opened.as_ref().map_or(0, |file| file.records()) as u32;
-        let edges = [count.saturating_sub(1), count, count + 1];
-        let others = [0, 7, 31, 32, 33, 32 * blocks, u32::MAX];
-        for place in edges.into_iter().chain(others) {
+        for place in [0, 7, 31, 32, 33, 32 * blocks, u32::MAX] {
             let answer = answer_of(met, |answer| next_record(image, words, place, answer));
             let expected = directory::answer_next_record(&opened, place.into());
-            assert_eq!(answer, expected.words());
-            let answer = answer_of(met, |answer| next_past_end(image, words, place, answer));
-            let expected = directory::answer_next_past_end(&opened, place.into());
             assert_eq!(answer, expected.words());
         }
         for name in [
@@ -908,9 +849,7 @@ mod tests {
         let answer = answer_of(met, |answer| open_volume(image, answer));
         assert_eq!(answer, volume::open_volume(image).words());
         let roles = sound.roles;
-        let directories = [1, 4, roles.directory];
-        let others = [roles.plain, roles.chained, roles.locked];
-        for number in directories.into_iter().chain(others) {
+        for number in [1, roles.plain, roles.chained, roles.directory, roles.locked] {
             let [number, sequence, _] = sound.file(number).id().words();
             expect_file(met, image, Id::from_words([number, sequence, 0]));
             for words in [[number, sequence ^ 1, 0], [number, sequence, 1]] {

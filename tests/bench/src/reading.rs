@@ -1,13 +1,10 @@
 //! Opening volumes and files, mapping, looking up and walking, on volumes whose index file has one header.
-//! Directories end where their blocks do, so that a library from before 02 (1/14) reads the same records;
-//! two lines have an end before that.
 
 use crate::calls::{answer_of, Calls, Plain};
 use crate::plain::Answer;
 use crate::table::{Line, Run};
 use std::cell::LazyCell;
 use volumes::directory::name_words;
-use volumes::end::End;
 use volumes::header::{Areas, Header, Pointer};
 use volumes::shapes::{MOST_BLOCKS, RL02_BLOCKS};
 use volumes::volume::{File, Plan, Record, Volume};
@@ -81,13 +78,6 @@ pub fn rl02() -> Volume {
     volume(plan, 6, 16, 200)
 }
 
-/// The same disk, with the end of the directory in its middle, inside a record.
-fn rl02_with_an_end() -> Volume {
-    let mut volume = rl02();
-    volume.put_end(4, End::after(512 * 100 + 24));
-    volume
-}
-
 /// The largest volume: a readings file of 4 headers and 104,448 blocks, a directory of 64 blocks.
 fn largest() -> Volume {
     let plan = Plan {
@@ -151,15 +141,6 @@ pub fn walk(
     }
 }
 
-/// Walking all records past the end of a directory.
-fn walk_past_end(line: Line, image: &[u8]) {
-    let step = |place, answer: &mut Answer| Plain.next_past_end(image, DIRECTORY, place, answer);
-    let places = walk(0, step, |_, answer| answer[10]);
-    line.read(image, &places, |side, image, place, answer| {
-        side.next_past_end(image, DIRECTORY, place, answer);
-    });
-}
-
 /// Walking all records of a directory.
 fn walk_directory(line: Line, image: &[u8]) {
     let step = |place, answer: &mut Answer| Plain.next_record(image, DIRECTORY, place, answer);
@@ -181,13 +162,6 @@ pub fn measure(run: &Run) {
     run.line("open volume, RL02", |line| open_volume(line, &rl02.image));
     run.line("look up an absent name, 200 blocks", |line| {
         look_up_absent(line, &rl02.image);
-    });
-    let ended = LazyCell::new(rl02_with_an_end);
-    run.line("look up an absent name, end after 100 blocks", |line| {
-        look_up_absent(line, &ended.image);
-    });
-    run.line("walk past an end, 100 blocks, by next_past_end", |line| {
-        walk_past_end(line, &ended.image);
     });
     let largest = LazyCell::new(largest);
     run.line("map every VBN, 1,044,480 blocks, 408 pointers", |line| {

@@ -1,7 +1,6 @@
 //! The lines of a run: which of them are wanted, which sides they have, and how they are printed.
 
 use crate::calls::{answer_of, Calls};
-use crate::loaded::NO_CALL;
 use crate::plain::Answer;
 use crate::turns::{measure, Ratio, Role, Side, Times, Turn, Worker, BUDGET, ROUND};
 use std::hint::black_box;
@@ -123,20 +122,18 @@ pub struct Line<'a> {
 
 impl Line<'_> {
     /// Measures a call with each of some arguments. The answers of all sides are compared first, word by
-    /// word; where the old library has 0, a word may have been given a meaning since, and where it does
-    /// not have the call it is left out. A round has every so-manyth argument, and the next round those
-    /// beside them.
+    /// word; where the old library has 0, a word may have been given a meaning since. A round has every
+    /// so-manyth argument, and the next round those beside them.
     pub fn read<Argument: Copy>(
         &self,
         image: &[u8],
         arguments: &[Argument],
         call: impl Fn(&dyn Calls, &[u8], Argument, &mut Answer),
     ) {
-        let mut sides = self.run.sides_of(image);
+        let sides = self.run.sides_of(image);
         let answer_by = |calls: &dyn Calls, argument| {
             answer_of(|answer| call(calls, black_box(image), argument, answer))
         };
-        sides.retain(|side| !side.is_old() || answer_by(side.any(), arguments[0])[0] != NO_CALL);
         let started = Instant::now();
         for &argument in arguments {
             let answers = sides.iter().map(|side| answer_by(side.any(), argument));

@@ -145,11 +145,9 @@ pub fn vbns(volume: &Volume, image: &[u8], id: Id) -> Vec<u32> {
     vbns
 }
 
-/// Names that are in records of a volume, below an end or past it, proper or not, and some that are in
-/// none.
+/// Names that are in records of a volume, proper or not, and some that are in none.
 pub fn names(volume: &Volume) -> Vec<[u16; 5]> {
-    let records = volume.records.iter().chain(&volume.past_end);
-    let mut names: Vec<[u16; 5]> = records.map(|it| it.record.name).collect();
+    let mut names: Vec<[u16; 5]> = volume.records.iter().map(|it| it.record.name).collect();
     names.extend(["ABSENT.DAT;1", "READS.DAT;3", "A.A;1", "ZZZ.;9"].map(name_words));
     // No name, a version too low and too high, a blank and a dollar inside.
     let [first, second, third, typ, version] = name_words("READS.DAT;1");
@@ -170,27 +168,14 @@ pub fn names(volume: &Volume) -> Vec<[u16; 5]> {
     names
 }
 
-/// Record places around the end of a file and around its mapped end, as the model finds them, and the
-/// last of all.
-fn end_places(image: &[u8], id: Id) -> Vec<u32> {
-    let opened = file::open(image, id);
-    let counts = opened.map_or((0, 0), |file| (file.records(), file.blocks()));
-    let (end, mapped) = (counts.0 as u32, counts.1 as u32 * BLOCK_RECORDS);
-    let around = [end, mapped].map(|it| [it.saturating_sub(1), it, it + 1]);
-    let mut places = around.concat();
-    places.push(u32::MAX);
-    places
-}
-
-/// Record places near every edge of a file: the first and the last of all, of those below its end and of
-/// each block, where the records are, and beyond.
+/// Record places near every edge of a file: the first and the last of all and of each block, where
+/// the records are, and beyond.
 pub fn places(volume: &Volume, image: &[u8], id: Id) -> Vec<u32> {
-    let mut places = vec![0, 1, 31, 32, 33, 1 << 31, u32::MAX - 1];
-    places.extend(end_places(image, id));
+    let mut places = vec![0, 1, 31, 32, 33, 1 << 31, u32::MAX - 1, u32::MAX];
     let opened = file::open(image, id);
-    let mapped = opened.map_or(0, |file| file.blocks()) as u32 * BLOCK_RECORDS;
-    places.extend([mapped + 31, mapped + 32]);
-    let own = volume.records.iter().chain(&volume.past_end);
+    let end = opened.map_or(0, |file| file.blocks()) as u32 * BLOCK_RECORDS;
+    places.extend([end.saturating_sub(1), end, end + 1, end + 31, end + 32]);
+    let own = volume.records.iter();
     let own = own.filter(|placed| placed.directory == id.number);
     places.extend(own.flat_map(|placed| [placed.place, placed.place + 1]));
     places.sort_unstable();
@@ -221,13 +206,11 @@ pub fn opening_of(id: Id) -> Asked {
 /// Some of what could be asked of one file.
 pub fn some_of(random: &mut Random, volume: &Volume, image: &[u8], id: Id) -> Asked {
     let all = all_of(volume, image, id);
-    let mut places = some(random, &all.places, 2);
-    places.extend(some(random, &end_places(image, id), 2));
     Asked {
         id,
         vbns: some(random, &all.vbns, 4),
         names: some(random, &all.names, 3),
-        places,
+        places: some(random, &all.places, 3),
     }
 }
 

@@ -2,7 +2,6 @@
 //! and against the model.
 
 use crate::asked::{all_of, ids, opening_of, places, some, some_of};
-use crate::directories::{directories, NAME_PAST_END};
 use crate::facts::{expect_each_met, Depth};
 use crate::images::{Call, Subject};
 use crate::run::Run;
@@ -10,6 +9,23 @@ use library::Lender;
 use model::Number;
 use volumes::volume::File;
 use volumes::{Random, Volume};
+
+/// The records of a directory that are not empty, in order, with their places.
+fn records(volume: &Volume, directory: u16) -> Vec<(u32, [u64; 8])> {
+    let mut records = Vec::new();
+    for (vbn, lbn) in (0..).zip(volume.file(directory).lbns()) {
+        for (number, bytes) in (0..).zip(volume.block(lbn).chunks_exact(16)) {
+            let mut words = [0; 8];
+            for (word, two) in words.iter_mut().zip(bytes.chunks_exact(2)) {
+                *word = u64::from(two[0]) | u64::from(two[1]) << 8;
+            }
+            if words[0] != 0 {
+                records.push((32 * vbn + number, words));
+            }
+        }
+    }
+    records
+}
 
 /// Some of a file's blocks, each where the builder put it.
 fn expect_blocks(run: &mut Run, random: &mut Random, subject: &Subject, file: &File) {
@@ -34,6 +50,20 @@ fn expect_blocks(run: &mut Run, random: &mut Random, subject: &Subject, file: &F
     }
 }
 
+/// A walk over all records of a directory, each answered in turn, and then ABSENT.
+fn expect_walk(run: &mut Run, subject: &Subject, volume: &Volume, directory: u16) {
+    let id = volume.file(directory).id();
+    let mut place = 0;
+    for (found, words) in records(volume, directory) {
+        let mut value = words.to_vec();
+        value.push(u64::from(found) + 1);
+        subject.expect_words(run, Call::NextRecord(id, place), &value);
+        place = found + 1;
+    }
+    subject.expect(run, Call::NextRecord(id, place), Number::Absent);
+    subject.expect(run, Call::NextRecord(id, place), Number::Absent);
+}
+
 /// What the builder knows of a volume, of the library alone.
 fn expect_as_built(run: &mut Run, random: &mut Random, subject: &Subject, volume: &Volume) {
     subject.expect_words(run, Call::OpenVolume, &[volume.plan.home.into()]);
@@ -46,8 +76,8 @@ fn expect_as_built(run: &mut Run, random: &mut Random, subject: &Subject, volume
         subject.expect_words(run, Call::OpenFile(id), &[file.blocks().into()]);
         expect_blocks(run, random, subject, file);
     }
-    for directory in directories(volume) {
-        subject.expect_directory(run, volume, directory);
+    for directory in [4, volume.roles.directory] {
+        expect_walk(run, subject, volume, directory);
     }
     subject.expect_facts(run, volume);
 }
@@ -60,9 +90,6 @@ pub fn expect_built_met(run: &mut Run, least: u64) {
     run.expect_met("block", [0, 13], least);
     run.expect_met("look_up", [0, 14, 15], least);
     run.expect_met("next_record", [0, 15], least);
-    run.expect_met("next_past_end", [0, 15], least);
-    run.expect_met("next_past_end", [6, 7, 9], least / 2);
-    run.expect_met(NAME_PAST_END, [0, 1], least);
     expect_each_met(run, &[0], least);
     run.expect_met("header", [7], least);
     run.expect_met("pointer", [7, 15], least);
@@ -84,8 +111,7 @@ pub fn compare_built(run: &mut Run, random: &mut Random, lender: &mut Lender, vo
     for &id in &ids {
         subject.compare_file(run, &opening_of(id));
     }
-    let roles = volume.roles;
-    for number in [1, 4, roles.chained, roles.directory, roles.empty] {
+    for number in [1, 4, volume.roles.chained, volume.roles.directory] {
         let id = volume.file(number).id();
         let mut asked = all_of(volume, image, id);
         asked.vbns = some(random, &asked.vbns, 40);

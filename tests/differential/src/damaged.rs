@@ -7,41 +7,24 @@ use crate::images::{Call, Subject};
 use crate::judging::Desk;
 use crate::run::Run;
 use library::Lender;
-use model::{Id, Number};
+use model::Number;
 use volumes::damage::{Checksums, Damage, Expected};
 use volumes::flaw::Flawed;
 use volumes::{Random, Volume};
 
-/// The directory of every volume.
-const MASTER: Id = Id {
-    number: 4,
-    sequence: 4,
-    volume: 0,
-};
-
-/// The calls that a damage says the answer of. What lies past an end is refused as opening is.
+/// The calls that a damage says the answer of.
 fn calls_of(expected: Expected) -> Vec<Call> {
-    let (mut calls, directory) = match expected {
-        Expected::Volume(_) => {
-            let calls = vec![Call::OpenVolume, Call::Geometry, Call::Label];
-            (calls, MASTER)
-        }
-        Expected::File(id, Number::Number | Number::Header) => {
-            let calls = vec![
-                Call::OpenFile(id),
-                Call::Attributes(id),
-                Call::Extent(id, 0),
-                Call::Header(id.number),
-                Call::Pointer(id.number, 0),
-            ];
-            (calls, id)
-        }
-        Expected::File(id, _) => (vec![Call::OpenFile(id), Call::Attributes(id)], id),
-    };
-    if expected.number() != Number::Done {
-        calls.push(Call::NextPastEnd(directory, 0));
+    match expected {
+        Expected::Volume(_) => vec![Call::OpenVolume, Call::Geometry, Call::Label],
+        Expected::File(id, Number::Number | Number::Header) => vec![
+            Call::OpenFile(id),
+            Call::Attributes(id),
+            Call::Extent(id, 0),
+            Call::Header(id.number),
+            Call::Pointer(id.number, 0),
+        ],
+        Expected::File(id, _) => vec![Call::OpenFile(id), Call::Attributes(id)],
     }
-    calls
 }
 
 /// Compares a damaged volume with the model, and its verdict. Calls are chosen from what was there
@@ -149,7 +132,6 @@ pub fn compare_flawed(run: &mut Run, (lender, desk): (&mut Lender, &mut Desk), f
     subject.expect_judged(run, &mut random, desk, expected);
     subject.compare_verdict(run, &mut random, desk);
     subject.compare_facts(run, &mut random, flawed.sound, Depth::SOME);
-    subject.compare_directories(run, &mut random, flawed.sound);
 }
 
 /// A volume with a flaw mostly opens, and tells what it says: each answer, often enough.
@@ -160,7 +142,4 @@ pub fn expect_flawed_met(run: &mut Run, least: u64) {
     run.expect_met("attributes", 6..=12, least);
     run.expect_met("extent", 6..=13, least);
     run.expect_met("free_run", [15], least);
-    run.expect_met("look_up", [0, 14, 15], least);
-    run.expect_met("next_record", [0, 15], least);
-    run.expect_met("next_past_end", [0, 15], least);
 }

@@ -1,6 +1,5 @@
 //! The comparisons of the calls on images.
 
-use crate::directories::meet_end;
 use crate::run::{first_difference, show_answer, Line, Run};
 use library::Words;
 use model::file::{self, Opened};
@@ -17,7 +16,6 @@ pub enum Call {
     Block(Id, u32),
     LookUp(Id, [u16; 5]),
     NextRecord(Id, u32),
-    NextPastEnd(Id, u32),
     Geometry,
     Label,
     Header(u16),
@@ -37,7 +35,6 @@ impl Call {
             Call::Block(..) => "block",
             Call::LookUp(..) => "look_up",
             Call::NextRecord(..) => "next_record",
-            Call::NextPastEnd(..) => "next_past_end",
             Call::Geometry => "geometry",
             Call::Label => "label",
             Call::Header(_) => "header",
@@ -57,7 +54,6 @@ impl Call {
             Call::Block(id, vbn) => library::block(image, id.words(), vbn),
             Call::LookUp(id, name) => library::look_up(image, id.words(), name),
             Call::NextRecord(id, place) => library::next_record(image, id.words(), place),
-            Call::NextPastEnd(id, place) => library::next_past_end(image, id.words(), place),
             Call::Geometry => library::geometry(image),
             Call::Label => library::label(image),
             Call::Header(number) => library::header(image, number),
@@ -77,7 +73,6 @@ impl Call {
             Call::Block(_, vbn) => file::answer_block(file, Vbn(vbn.into())),
             Call::LookUp(_, name) => directory::answer_look_up(file, &Name::from_words(name)),
             Call::NextRecord(_, place) => directory::answer_next_record(file, place.into()),
-            Call::NextPastEnd(_, place) => directory::answer_next_past_end(file, place.into()),
             Call::Geometry => facts::answer_geometry(volume),
             Call::Label => facts::answer_label(volume),
             Call::Header(number) => facts::answer_header(volume, FileNumber(number.into())),
@@ -203,9 +198,7 @@ impl Subject<'_> {
         }
         for &place in &asked.places {
             self.compare(run, Call::NextRecord(id, place), opened);
-            self.compare(run, Call::NextPastEnd(id, place), opened);
         }
-        meet_end(run, asked, &volume, &file);
     }
 
     /// Counts which of the header's tests was not met, or what was wrong with a link.

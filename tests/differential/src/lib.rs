@@ -3,7 +3,6 @@
 //! * [`run`]: numbers and counts the cases of a test, and reports a case that differs;
 //! * [`names`]: the comparisons of the calls on names, and the names and texts that they use;
 //! * [`images`]: the comparisons of the calls on images;
-//! * [`directories`]: those of directories, below their ends and past them;
 //! * [`built`]: those of a sound volume, whose builder knows what it put where;
 //! * [`damaged`]: those of a damaged volume;
 //! * [`facts`]: the comparisons of the calls that tell what a volume and its files say;
@@ -26,7 +25,6 @@ pub mod asked;
 pub mod both;
 pub mod built;
 pub mod damaged;
-pub mod directories;
 pub mod facts;
 pub mod images;
 pub mod judging;

@@ -2,8 +2,6 @@
 //! demand 3 says of the image after one.
 
 use crate::asked;
-use crate::directories::directories;
-use crate::images::Subject;
 use crate::judging::{enough, needed, too_short, Areas, Desk};
 use crate::run::Run;
 use crate::writing::{Change, Changing};
@@ -235,32 +233,6 @@ impl<'a> List<'a> {
         self.expect_kept(run);
         self.expect_slots(run);
         self.expect_removed(run, random, desk);
-        self.compare_directories(run, random);
-    }
-
-    /// Compares the directories as the calls have left them, and some of the files that are there now: an
-    /// end stays where it was, also of a file that was extended, and a new file has none. Paper 01, "The
-    /// verdict": "The attribute area is never touched." A directory that was not named is as it was built.
-    fn compare_directories(&self, run: &mut Run, random: &mut Random) {
-        let subject = Subject {
-            image: &self.changing.image,
-            story: &self.changing.lines(),
-        };
-        subject.compare_directories(run, random, self.built);
-        for number in directories(self.built) {
-            let id = self.built.file(number).id();
-            let is_kept = number == 4 || self.aside.contains(&id);
-            if is_kept && !self.built.file(number).is_locked() {
-                subject.expect_directory(run, self.built, number);
-            }
-        }
-        for ids in [&self.there, &self.created] {
-            let Some(&id) = ids.last() else {
-                continue;
-            };
-            let asked = asked::some_of(random, self.built, subject.image, id);
-            subject.compare_file(run, &asked);
-        }
     }
 
     /// Paper 00, demand 3: "the image after the list is accepted."

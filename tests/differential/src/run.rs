@@ -242,14 +242,13 @@ pub const FACTS: [&str; 7] = [
 ];
 
 /// The other calls on images.
-const OTHERS: [&str; 11] = [
+const OTHERS: [&str; 10] = [
     "open_volume",
     "open_file",
     "map",
     "block",
     "look_up",
     "next_record",
-    "next_past_end",
     "judge",
     "create",
     "extend",

@@ -3,7 +3,6 @@
 
 use differential::asked::ids;
 use differential::damaged::{compare_changed, compare_damaged, compare_named, damage_together};
-use differential::directories::expect_ends_met;
 use differential::facts::{expect_all_met, expect_each_met, Depth};
 use differential::images::{Asked, Subject, BAD_LINK, UNMET_TEST};
 use differential::judging::{Desk, OFFENCE};
@@ -38,8 +37,6 @@ fn named_damages() {
         run.expect_met("judge", [0, 2, 3, 4, 5, 16, 17, 18], 200);
         run.expect_met("judge", [19], 20);
         run.expect_met(OFFENCE, 1..=12, 10);
-        run.expect_met("next_past_end", [0, 2, 3, 4, 5, 7, 8, 12, 15], 20);
-        expect_ends_met(run, 5, 0);
         expect_all_met(run, 100);
     });
 }
@@ -65,7 +62,6 @@ fn damages_together() {
         run.expect_met("open_file", 7..=12, 20);
         run.expect_met("judge", [16, 17], 50);
         run.expect_met("judge", [18], 20);
-        expect_ends_met(run, 5, 0);
         expect_all_met(run, 25);
     });
 }
@@ -93,9 +89,6 @@ fn random_damages() {
         run.expect_met("look_up", [0].into_iter().chain(2..=12), 10);
         run.expect_met("look_up", [14, 15], 500);
         run.expect_met("next_record", [0, 15], 500);
-        run.expect_met("next_past_end", [0, 15], 500);
-        run.expect_met("next_past_end", 2..=12, 10);
-        expect_ends_met(run, 100, 20);
         run.expect_met(UNMET_TEST, 1..=12, 5);
         run.expect_met(BAD_LINK, [13, 15, 16], 20);
         run.expect_met("judge", [0, 2, 3, 4, 5, 16, 17, 18], 100);
@@ -125,7 +118,6 @@ fn random_damages_of_volume_v() {
         run.expect_met("open_volume", [0, 2, 3, 4, 5], 100);
         run.expect_met("open_file", [7, 8, 9, 10, 11, 12], 20);
         run.expect_met("judge", [0, 16, 17, 18, 19, 21], 20);
-        run.expect_met("next_past_end", [0, 15], 100);
         expect_all_met(run, 10);
     });
 }
@@ -166,7 +158,6 @@ fn random_images() {
         });
         run.expect_met("open_volume", [1, 2, 3, 4, 5], 50);
         run.expect_met("next_record", [15], 1_000);
-        run.expect_met("next_past_end", [1, 2, 3, 4, 5], 50);
         run.expect_met("judge", [1, 2, 3, 4, 5], 50);
         expect_each_met(run, &[1, 2, 3, 4, 5], 50);
     });
@@ -209,7 +200,6 @@ fn other_lengths() {
         run.expect_met("map", [1], 500);
         run.expect_met("block", [1], 500);
         run.expect_met("look_up", [1], 500);
-        run.expect_met("next_past_end", [1], 500);
         run.expect_met("judge", [1], 500);
         run.expect_met("judge", [0, 4, 5, 17, 21], 10);
         expect_each_met(run, &[1], 500);

@@ -15,7 +15,6 @@ use volumes::directory::name_words;
 use volumes::flaw::Judged;
 use volumes::hub::{hub, name_of, sequence_of, Hub};
 use volumes::long_index::last_slot_of;
-use volumes::volume::Record;
 use volumes::writable::put_sequence;
 use volumes::Volume;
 
@@ -70,7 +69,6 @@ fn asked_of(random: &mut Random, volume: &Volume, id: Id) -> Asked {
         name_of(volume.roles.chained),
         volume.records[last as usize - 1].record.name,
         name_words("ABSENT.DAT;1"),
-        name_words("OLD.DAT;1"),
         [0; 5],
     ];
     let places = [0, 1, 31, 32, last - 1, last, last + 1, last + 32, u32::MAX];
@@ -81,9 +79,6 @@ fn asked_of(random: &mut Random, volume: &Volume, id: Id) -> Asked {
         places: places.into_iter().filter(|_| is_directory).collect(),
     }
 }
-
-/// The kind of what is met where a hub has a record past the end of its directory: 1.
-const PAST_END: &str = "record past the end of a hub's directory";
 
 /// What the builder knows of a hub, of the library alone.
 fn expect_as_built(run: &mut Run, subject: &Subject, volume: &Volume) {
@@ -110,18 +105,6 @@ fn expect_as_built(run: &mut Run, subject: &Subject, volume: &Volume) {
         let further = id(header.number, header.sequence);
         subject.expect(run, Call::OpenFile(further), Number::Segment);
     }
-    let count = volume.records.len() as u32;
-    subject.expect(run, Call::NextRecord(directory, count), Number::Absent);
-    for old in &volume.past_end {
-        let Record { id, name } = old.record;
-        let mut words: Vec<u64> = id.into_iter().chain(name).map(u64::from).collect();
-        words.push(u64::from(old.place) + 1);
-        subject.expect(run, Call::LookUp(directory, name), Number::Absent);
-        subject.expect_words(run, Call::NextPastEnd(directory, 0), &words);
-        run.meet(PAST_END, 1);
-    }
-    let behind = Call::NextPastEnd(directory, count + 1);
-    subject.expect(run, behind, Number::Absent);
 }
 
 /// Compares a hub. It is too large to be lent by copy, so that it is lent as it is.
@@ -164,8 +147,6 @@ fn all_calls_on_hubs() {
         run.expect_met("block", [0, 13], 40);
         run.expect_met("look_up", [0, 14, 15], 4);
         run.expect_met("next_record", [0, 15], 4);
-        run.expect_met("next_past_end", [0, 15], 4);
-        run.expect_met(PAST_END, [1], 2);
         run.expect_met("judge", [0], 4);
         expect_each_met(run, &[0], 4);
     });

@@ -2,15 +2,13 @@
 //! home at the last position, and a chain of 256 full headers.
 
 use differential::asked::ids;
-use differential::directories::expect_ends_met;
 use differential::facts::{expect_each_met, Depth};
 use differential::images::{digest, Asked, Call, Subject};
 use differential::{Random, Run};
 use library::Lender;
 use model::{Id, Number};
 use volumes::directory::name_words;
-use volumes::end::{End, Kind};
-use volumes::facts::Facts;
+use volumes::facts::{End, Facts};
 use volumes::header::{pointers_of, Areas, Header, Pointer, MOST_POINTERS};
 use volumes::shapes::MOST_BLOCKS;
 use volumes::station::LABEL;
@@ -171,56 +169,18 @@ fn compare_large(run: &mut Run, volume: &Volume) {
         places: vec![0, 31, 32, 94, 95, 96, u32::MAX],
     };
     subject.compare_file(run, &directory);
-    subject.expect_directory(run, volume, 4);
     expect_facts(run, &subject, volume);
     let mut random = Random::new(run.seed());
     subject.compare_facts(run, &mut random, volume, Depth::LARGE);
     assert_eq!(digest(image), before, "the image was written to");
 }
 
-/// Compares the directory of a volume of N blocks with an end of every kind that its three blocks can
-/// have: it has a record at its first place and at its last.
-fn compare_ends(run: &mut Run, mut volume: Volume) {
-    let name = name_words("FIRST.DAT;1");
-    let last = name_words("READS.DAT;1");
-    let record = Record {
-        id: [5, 5, 0],
-        name,
-    };
-    volume.put_record(4, 0, record);
-    let directory = Id::from_words([4, 4, 0]);
-    let mut random = Random::new(run.seed());
-    for kind in Kind::ALL {
-        if !run.next_case() {
-            continue;
-        }
-        let end = End::of_kind(&mut random, kind, 3).expect("an end of three blocks");
-        volume.put_end(4, end);
-        let count = end.records();
-        let subject = Subject {
-            image: &volume.image,
-            story: &[("end", format!("{end:?}"))],
-        };
-        subject.expect_directory(run, &volume, 4);
-        let asked = Asked {
-            id: directory,
-            vbns: vec![],
-            names: vec![name, last],
-            places: vec![0, 1, count.saturating_sub(1), count, count + 1, 95, 96],
-        };
-        subject.compare_file(run, &asked);
-    }
-}
-
 /// Volumes of 516,096 and of 1,044,480 blocks, and one block more.
 #[test]
 fn the_largest_volumes() {
-    Run::of(module_path!(), "the_largest_volumes", 40, |run| {
-        for plan in [plan_of_516_096(), largest_plan()] {
-            let volume = large_volume(plan);
-            compare_large(run, &volume);
-            compare_ends(run, volume);
-        }
+    Run::of(module_path!(), "the_largest_volumes", 4, |run| {
+        compare_large(run, &large_volume(plan_of_516_096()));
+        compare_large(run, &large_volume(largest_plan()));
         let image = vec![0; 512 * (MOST_BLOCKS as usize + 1)];
         for (blocks, number) in [(MOST_BLOCKS, Number::Home), (MOST_BLOCKS + 1, Number::Size)] {
             if run.next_case() {
@@ -236,8 +196,6 @@ fn the_largest_volumes() {
         run.expect_met("open_file", [0, 6, 7, 9, 10], 2);
         run.expect_met("map", [0, 13], 30);
         run.expect_met("look_up", [0, 14, 15], 2);
-        run.expect_met("next_past_end", [0, 15], 20);
-        expect_ends_met(run, 2, 0);
         expect_each_met(run, &[0], 2);
         run.expect_met("pointer", [15], 2);
         run.expect_met("extent", [13], 2);
@@ -275,22 +233,6 @@ fn longest_file() -> Volume {
     volume
 }
 
-/// The blocks of the longest file.
-const LONGEST: u32 = 256 * 113 * 256;
-
-/// The longest file with a record, the last of the last block that each pointer covers, so that every
-/// 8,192th record of the file is not empty. It ends where its blocks do.
-fn longest_directory(name: [u16; 5]) -> Volume {
-    let mut volume = longest_file();
-    let record = Record {
-        id: [6, 9, 0],
-        name,
-    };
-    volume.put_record(6, 8_191, record);
-    volume.put_end(6, End::of_full(LONGEST));
-    volume
-}
-
 /// The longest file: its last VBN, its last record, and one past them.
 #[test]
 fn the_longest_file() {
@@ -298,12 +240,18 @@ fn the_longest_file() {
         if !run.next_case() {
             return;
         }
-        let blocks = LONGEST;
+        let mut volume = longest_file();
+        let blocks = 256 * 113 * 256;
         assert_eq!(blocks, 7_405_568);
         let records = 32 * blocks;
         let id = Id::from_words([6, 9, 0]);
+        // The only record is the last of the last block that each pointer covers.
         let name = name_words("READS.DAT;1");
-        let volume = longest_directory(name);
+        let record = Record {
+            id: [6, 9, 0],
+            name,
+        };
+        volume.put_record(6, 256 * 32 - 1, record);
         let mut lender = Lender::new();
         let image = lender.lend(&volume.image);
         let subject = Subject { image, story: &[] };
@@ -335,68 +283,7 @@ fn the_longest_file() {
         subject.expect_words(run, Call::Extent(id, blocks), &[257, 1]);
         subject.expect(run, Call::Extent(id, blocks + 1), Number::Vbn);
         let bytes = 512 * u64::from(blocks);
-        let mut said = vec![u64::from(blocks), bytes, 0, 0, 0, 0, 0, 0];
-        said.extend([u64::from(blocks), 512]);
-        subject.expect_words(run, Call::Attributes(id), &said);
+        subject.expect_words(run, Call::Attributes(id), &[u64::from(blocks), bytes]);
         run.expect_met("map", [0], 40);
-    });
-}
-
-/// The longest file as a directory, with ends in its middle: in blocks past 65,535, which have a high
-/// word, and in the last block. Each is right behind a record, or cuts through it.
-#[test]
-fn ends_of_the_longest_file() {
-    Run::of(module_path!(), "ends_of_the_longest_file", 18, |run| {
-        let id = Id::from_words([6, 9, 0]);
-        let name = name_words("READS.DAT;1");
-        let mut words = vec![6, 9, 0];
-        words.extend(name.map(u64::from));
-        let mut volume = longest_directory(name);
-        let mut lender = Lender::new();
-        let all = u64::from(LONGEST) / 256;
-        // How many of the records that are not empty lie before the end, or up to it.
-        for pieces in [1, 255, 256, 257, 300, 512, 20_000, all - 1, all] {
-            for cut in [0, 1] {
-                if !run.next_case() {
-                    continue;
-                }
-                let end = End::after(256 * 512 * pieces - cut);
-                volume.put_end(6, end);
-                let subject = Subject {
-                    image: lender.lend(&volume.image),
-                    story: &[("end", format!("{end:?}"))],
-                };
-                let found = |piece: u64| [&words[..], &[8_192 * piece]].concat();
-                let whole = pieces - cut;
-                let place = |piece: u64| (8_192 * piece) as u32;
-                if whole > 0 {
-                    let last = Call::NextRecord(id, place(whole - 1));
-                    subject.expect_words(run, last, &found(whole));
-                    subject.expect_words(run, Call::LookUp(id, name), &[6, 9, 0]);
-                } else {
-                    subject.expect(run, Call::LookUp(id, name), Number::Absent);
-                }
-                subject.expect(run, Call::NextRecord(id, place(whole)), Number::Absent);
-                if whole < all {
-                    let first = Call::NextPastEnd(id, 0);
-                    subject.expect_words(run, first, &found(whole + 1));
-                    let last = Call::NextPastEnd(id, place(all - 1));
-                    subject.expect_words(run, last, &found(all));
-                } else {
-                    subject.expect(run, Call::NextPastEnd(id, 0), Number::Absent);
-                }
-                let records = end.records();
-                let asked = Asked {
-                    id,
-                    vbns: vec![],
-                    names: vec![],
-                    places: vec![0, records - 1, records, records + 1, 32 * LONGEST - 1],
-                };
-                subject.compare_file(run, &asked);
-            }
-        }
-        run.expect_met("next_record", [0, 15], 10);
-        run.expect_met("next_past_end", [0], 50);
-        run.expect_met("next_past_end", [15], 4);
     });
 }

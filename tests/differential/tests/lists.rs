@@ -1,7 +1,6 @@
 //! Lists of create, extend and delete calls on sound volumes of every shape: each call against the
 //! model, and after each list what demand 3 says.
 
-use differential::directories::expect_ends_met;
 use differential::judging::Desk;
 use differential::lists::{List, ANSWERS, KEPT, NAMED, REMOVED};
 use differential::{Random, Run};
@@ -55,10 +54,6 @@ fn lists_of_calls() {
         run.expect_met(KEPT, [1], 500);
         run.expect_met(NAMED, [1], 500);
         run.expect_met(REMOVED, [7, 9], 50);
-        run.expect_met("look_up", [0, 14, 15], 50);
-        run.expect_met("next_record", [0, 15], 50);
-        run.expect_met("next_past_end", [0, 15], 50);
-        expect_ends_met(run, 3, 0);
         run.expect_met(HOME, [1], 100);
         run.expect_met(HOME, [256, 512], 3);
         run.expect_met(LARGE_H_FMAX, [1], 10);
@@ -75,7 +70,7 @@ fn lists_on_rl02_volumes() {
         run.random_cases(3, |run, random| {
             compare_list(run, random, &mut desk, Size::Rl02);
         });
-        run.expect_met("create", [0], 3);
+        run.expect_met("create", [0], 5);
         run.expect_met("extend", [0], 5);
         run.expect_met("delete", [0], 3);
     });

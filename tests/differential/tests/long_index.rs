@@ -4,7 +4,6 @@
 use differential::damaged::{
     compare_changed, compare_flawed, compare_named, damage_together, expect_flawed_met,
 };
-use differential::directories::expect_ends_met;
 use differential::facts::expect_all_met;
 use differential::images::{BAD_FIRST_BLOCKS, BAD_HEADER_1, BAD_INDEX, BAD_LINK, UNMET_TEST};
 use differential::judging::{offences, Desk, OFFENCE};
@@ -60,7 +59,6 @@ fn named_damages() {
         run.expect_met(BAD_LINK, 1..=16, 5);
         run.expect_met("judge", [0, 2, 4, 5, 16, 17, 18], 100);
         run.expect_met("judge", [3], 40);
-        expect_ends_met(run, 3, 0);
         expect_all_met(run, 50);
     });
 }
@@ -124,8 +122,6 @@ fn random_damages() {
         run.expect_met("block", [0, 4, 5, 7, 13], 50);
         run.expect_met("look_up", [0, 4, 14, 15], 50);
         run.expect_met("next_record", [0, 15], 500);
-        run.expect_met("next_past_end", [0, 4, 15], 500);
-        expect_ends_met(run, 30, 10);
         run.expect_met("judge", [0, 4, 5, 16, 17, 18], 50);
         run.expect_met("judge", [19, 21], 20);
         expect_all_met(run, 20);

@@ -3,7 +3,6 @@
 
 use differential::asked::opening_of;
 use differential::built::{compare_built, expect_built_met};
-use differential::directories::expect_ends_met;
 use differential::facts::{expect_each_met, Depth};
 use differential::images::{Asked, Call, Subject};
 use differential::judging::Desk;
@@ -90,7 +89,6 @@ fn sound_volumes() {
         });
         let least = 300;
         expect_built_met(run, least);
-        expect_ends_met(run, 8, 3);
         run.expect_met("judge", [0], least);
         run.expect_met("judge", [16], 20);
         expect_shapes(run, 10);
@@ -273,8 +271,6 @@ fn lists_of_calls() {
         run.expect_met(NAMED, [1], 200);
         run.expect_met(REMOVED, [7, 9], 20);
         run.expect_met(CREATED_FAR, [0, 1], 50);
-        run.expect_met("next_past_end", [0, 15], 50);
-        expect_ends_met(run, 1, 0);
         expect_shapes(run, 3);
     });
 }

@@ -2,7 +2,6 @@
 //! and against the model.
 
 use differential::built::{compare_built, expect_built_met};
-use differential::directories::expect_ends_met;
 use differential::Run;
 use library::Lender;
 use volumes::shapes::{random_volume, Size};
@@ -16,9 +15,6 @@ fn compare_volumes(test: &'static str, usual: u64, size: Size) {
             compare_built(run, random, &mut lender, &volume);
         });
         expect_built_met(run, usual);
-        if usual > 100 {
-            expect_ends_met(run, usual / 20, usual / 150);
-        }
         run.expect_met("attributes", [10, 11], usual / 4);
         run.expect_met("extent", [10, 11], usual / 4);
     });

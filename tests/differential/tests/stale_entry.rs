@@ -51,7 +51,6 @@ fn expect_old(run: &mut Run, subject: &Subject, old: Id, name: [u16; 5]) {
     subject.expect(run, Call::Attributes(old), Number::Sequence);
     subject.expect(run, Call::LookUp(old, name), Number::Sequence);
     subject.expect(run, Call::NextRecord(old, 0), Number::Absent);
-    subject.expect(run, Call::NextPastEnd(old, 0), Number::Sequence);
 }
 
 /// The same on random volumes: an entry with any sequence but the header's is answered as it is
@@ -147,7 +146,6 @@ fn tell_the_story(run: &mut Run, random: &mut Random, desk: &mut Desk, built: &V
         Call::Map(old, 1),
         Call::Block(old, 1),
         Call::LookUp(old, name),
-        Call::NextPastEnd(old, 0),
     ] {
         subject.expect(run, call, refusal);
     }

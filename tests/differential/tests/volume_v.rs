@@ -7,8 +7,6 @@ use differential::{Random, Run};
 use library::Lender;
 use model::{Id, Number};
 use volumes::block::{seal_header, seal_home};
-use volumes::end::End;
-use volumes::volume::Record;
 use volumes::volume_v::{volume_v, READS};
 
 /// The sample of the repository.
@@ -25,13 +23,7 @@ fn worked_cases() {
     let file_6 = id(6, 9);
     let directory = id(4, 4);
     let record = [6, 9, 0, 29_001, 7_160, 0, 6_460, 1, 1];
-    // Nothing says where file 6 ends, so that no record is below its end, and its bytes are past it.
-    let any_bytes = |byte: u64, place: u64| {
-        let word = 257 * byte;
-        [word, word, word, word, word, word, word, word, place]
-    };
-    let (first, last) = (any_bytes(30, 1), any_bytes(25, 96));
-    let done: [(Call, &[u64]); 19] = [
+    let done: [(Call, &[u64]); 17] = [
         (Call::OpenVolume, &[1]),
         (Call::OpenFile(id(1, 1)), &[19]),
         (Call::OpenFile(id(2, 2)), &[2]),
@@ -49,8 +41,6 @@ fn worked_cases() {
         (Call::Block(file_6, 3), &[12_800, 512]),
         (Call::LookUp(directory, READS), &[6, 9, 0]),
         (Call::NextRecord(directory, 0), &record),
-        (Call::NextPastEnd(file_6, 0), &first),
-        (Call::NextPastEnd(file_6, 95), &last),
     ];
     let other = [READS[0], READS[1], READS[2], READS[3], 2];
     let refused = [
@@ -74,75 +64,11 @@ fn worked_cases() {
         (Call::NextRecord(directory, u32::MAX), Number::Absent),
         (Call::NextRecord(id(4, 5), 0), Number::Absent),
         (Call::NextRecord(id(5, 5), 0), Number::Absent),
-        (Call::NextRecord(file_6, 0), Number::Absent),
-        (Call::NextPastEnd(directory, 0), Number::Absent),
-        (Call::NextPastEnd(directory, u32::MAX), Number::Absent),
-        (Call::NextPastEnd(file_6, 96), Number::Absent),
-        (Call::NextPastEnd(id(5, 5), 0), Number::Absent),
-        (Call::NextPastEnd(id(4, 5), 0), Number::Sequence),
-        (Call::NextPastEnd(id(7, 0), 0), Number::Number),
-        (
-            Call::NextPastEnd(Id::from_words([4, 4, 1]), 0),
-            Number::Relvol,
-        ),
     ];
-    Run::of(module_path!(), "worked_cases", 47, |run| {
+    Run::of(module_path!(), "worked_cases", 37, |run| {
         let mut lender = Lender::new();
         let image = lender.lend(SAMPLE);
         Subject { image, story: &[] }.expect_cases(run, &done, &refused);
-    });
-}
-
-/// Volume V with a record behind the end of its directory, at place 1: no look-up and no walk finds it.
-/// Where the end is moved on by 16, they do; by 15, it is not whole.
-#[test]
-fn a_record_behind_the_end() {
-    Run::of(module_path!(), "a_record_behind_the_end", 4, |run| {
-        let directory = id(4, 4);
-        let other = [READS[0], READS[1], READS[2], READS[3], 2];
-        let mut volume = volume_v();
-        let behind = Record {
-            id: [6, 8, 0],
-            name: other,
-        };
-        volume.leave_record(4, 1, behind);
-        let reads = [6, 9, 0, 29_001, 7_160, 0, 6_460, 1, 1];
-        let record = [6, 8, 0, 29_001, 7_160, 0, 6_460, 2, 2];
-        let mut lender = Lender::new();
-        for (first_free, is_below) in [(16, false), (31, false), (32, true), (33, true)] {
-            if !run.next_case() {
-                continue;
-            }
-            volume.put_end(4, End::after(first_free));
-            let subject = Subject {
-                image: lender.lend(&volume.image),
-                story: &[("first free byte", first_free.to_string())],
-            };
-            subject.expect_words(run, Call::LookUp(directory, READS), &[6, 9, 0]);
-            subject.expect_words(run, Call::NextRecord(directory, 0), &reads);
-            let look_up = Call::LookUp(directory, other);
-            let step = Call::NextRecord(directory, 1);
-            let past = [0, 1].map(|place| Call::NextPastEnd(directory, place));
-            if is_below {
-                subject.expect_words(run, look_up, &[6, 8, 0]);
-                subject.expect_words(run, step, &record);
-                for call in past {
-                    subject.expect(run, call, Number::Absent);
-                }
-            } else {
-                subject.expect(run, look_up, Number::Absent);
-                subject.expect(run, step, Number::Absent);
-                for call in past {
-                    subject.expect_words(run, call, &record);
-                }
-            }
-            for place in [2, 31, 32, u32::MAX] {
-                let behind = Call::NextPastEnd(directory, place);
-                subject.expect(run, behind, Number::Absent);
-                let step = Call::NextRecord(directory, place);
-                subject.expect(run, step, Number::Absent);
-            }
-        }
     });
 }
 
@@ -184,7 +110,6 @@ fn every_id() {
         run.expect_met("map", [0, 13], 6);
         run.expect_met("look_up", [0, 14, 15], 1);
         run.expect_met("next_record", [0, 15], 1);
-        run.expect_met("next_past_end", [0, 6, 7, 9, 15], 1);
     });
 }
 
@@ -263,8 +188,6 @@ fn every_byte_changed() {
         run.expect_met("map", [0, 13], 1_000);
         run.expect_met("look_up", [0, 14, 15], 500);
         run.expect_met("next_record", [0, 15], 500);
-        run.expect_met("next_past_end", [0, 8], 50);
-        run.expect_met("next_past_end", [2, 4, 5, 15], 500);
         expect_each_met(run, &[0, 2, 4, 5], 500);
         run.expect_met("header", [7, 8], 500);
         run.expect_met("pointer", [7, 8, 15], 500);

@@ -71,12 +71,6 @@ pub fn next_record(image: &[u8], id: [u16; 3], place: u32) -> Words {
     answer_of(|answer| words::next_record(image, id, place, answer))
 }
 
-/// `ods1_next_past_end`: the first record past a directory's end from a place on, and the place after
-/// it.
-pub fn next_past_end(image: &[u8], id: [u16; 3], place: u32) -> Words {
-    answer_of(|answer| words::next_past_end(image, id, place, answer))
-}
-
 /// `ods1_judge`: the verdict's four counts (blocks, claimed, free, headers), with work areas for the
 /// marks of blocks and of headers.
 pub fn judge(image: &[u8], blocks: &mut [u8], headers: &mut [u8]) -> Words {

@@ -2,11 +2,36 @@
 //! attributes of its records.
 
 use crate::answer::{Answer, Number};
-use crate::end::End;
 use crate::file::{self, Id};
 use crate::header::{blocks_of, Header};
-use crate::image::{two_words_high_first, word};
+use crate::image::{two_words_high_first, word, BLOCK_BYTES};
 use crate::volume::{self, Opened, Volume};
+
+/// Where a file ends.
+#[derive(Clone, Copy, Debug, PartialEq, Eq)]
+struct End {
+    /// Paper 000, 6.1.5: "This 32-bit number is the VBN is which the end of file is located."
+    f_efbk: u64,
+    /// Paper 000, 6.1.6: "This word is a count of the number of bytes in use in the virtual block
+    /// containing the end of file".
+    f_ffby: u64,
+}
+
+impl End {
+    /// How many bytes of a file of so many blocks lie before its end: all, where F.EFBK is 0, which is
+    /// no VBN ("VBN, from 1", paper 01, "The work and its edge"), and where the end is past the mapped
+    /// blocks. Paper 000, 6.1.6: "it is the offset to the first byte of the file available for
+    /// appending."
+    fn bytes_before(&self, blocks: u64) -> u64 {
+        let block_bytes = BLOCK_BYTES as u64;
+        let all = block_bytes * blocks;
+        if self.f_efbk == 0 {
+            return all;
+        }
+        let said = block_bytes * (self.f_efbk - 1) + self.f_ffby;
+        said.min(all)
+    }
+}
 
 /// The attributes of a file, which are those of its first header: its block count, the bytes before
 /// its end, H.FOWN, H.FPRO, its flags (user flags and 256 times the system flags), F.RTYP and F.RATT,
@@ -19,7 +44,10 @@ fn attribute_words(volume: &Volume, id: Id) -> Result<Vec<u64>, Number> {
     let blocks = chain.iter().map(|it| blocks_of(&it.pointers())).sum();
     let first: &Header = &chain[0];
     let area = first.attributes();
-    let end = End::of(first);
+    let end = End {
+        f_efbk: two_words_high_first(area, 8),
+        f_ffby: word(area, 12),
+    };
     Ok(vec![
         blocks,
         end.bytes_before(blocks),
@@ -83,6 +111,32 @@ mod tests {
             0x1413,
         ];
         assert_eq!(attributes(&image, FILE_6), Answer::done(&words));
+    }
+
+    #[test]
+    fn ends_of_a_file_of_three_blocks() {
+        for (f_efbk, f_ffby, before) in [
+            (0, 0, 1_536),
+            (0, 7, 1_536),
+            (1, 0, 0),
+            (1, 1, 1),
+            (1, 512, 512),
+            (2, 0, 512),
+            (1, 513, 513),
+            (3, 511, 1_535),
+            (3, 512, 1_536),
+            (3, 513, 1_536),
+            (4, 0, 1_536),
+            (4, 1, 1_536),
+            (1, 1_536, 1_536),
+            (1, 65_535, 1_536),
+            (65_536, 0, 1_536),
+            (u64::from(u32::MAX), 65_535, 1_536),
+        ] {
+            let end = End { f_efbk, f_ffby };
+            assert_eq!(end.bytes_before(3), before, "{end:?}");
+            assert_eq!(end.bytes_before(0), 0, "{end:?}");
+        }
     }
 
     #[test]

@@ -1,7 +1,6 @@
 //! Files: opening one by its ID, and mapping its VBNs.
 
 use crate::answer::{Answer, Number};
-use crate::end::End;
 use crate::header::{blocks_of, lbn_of, Header, Pointer};
 use crate::image::{offset, FileNumber, Image, Lbn, Vbn, BLOCK_BYTES};
 use crate::volume::{self, BadLink, Volume};
@@ -40,9 +39,6 @@ pub struct File<'a> {
     /// The pointers of the whole chain. Paper 01, "The header": "VBNs run through its pointers in
     /// order."
     pointers: Vec<Pointer>,
-    /// Where the first header says that the file ends. Paper 02, 1/14: "The attribute area gives .. the
-    /// end-of-file block (high word first) and .. the first free byte."
-    end: End,
 }
 
 /// A file, or the refusal of opening it.
@@ -53,13 +49,6 @@ impl<'a> File<'a> {
     /// covers c+1 blocks".
     pub fn blocks(&self) -> u64 {
         blocks_of(&self.pointers)
-    }
-
-    /// How many records lie below the file's end. Paper 02, 1/14: "Records are the whole 16-byte ones
-    /// below (block−1)·512 + first free byte, or below the mapped end if that is less; block 0 means
-    /// none."
-    pub fn records(&self) -> u64 {
-        self.end.records_before(self.blocks())
     }
 
     /// The LBN of a VBN. Paper 01, "The header": "VBNs run through its pointers in order."
@@ -135,7 +124,6 @@ pub fn open_in<'a>(volume: &volume::Opened<'a>, id: Id) -> Opened<'a> {
     Ok(File {
         image: volume.image(),
         pointers,
-        end: End::of(&chain[0]),
     })
 }
 

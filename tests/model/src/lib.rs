@@ -3,8 +3,8 @@
 //!
 //! It is written from the papers alone, plain and slow: it shares no code, no table and no way of
 //! working with the library. Each function cites the sentence of the paper that it implements, or of
-//! paper 000, the specification, where paper 01 only names a field. Of paper 02 it has request 1/14,
-//! the end of a directory, and request 9/14, index files with several headers.
+//! paper 000, the specification, where paper 01 only names a field. Of paper 02 it has request 9/14,
+//! index files with several headers.
 //!
 //! One module for each part of the paper:
 //!
@@ -14,14 +14,12 @@
 //! * [`image`]: "The work and its edge" and "The volume", blocks, words, bits and the checksum;
 //! * [`header`]: "The header", its fields, when it is whole, and its pointers;
 //! * [`volume`]: "The volume", opening one, slots, numbers in use, and chains of headers;
-//! * [`end`]: request 1/14, where a file ends, and how many records a directory has;
 //! * [`file`]: "The header" and "Answer numbers", opening a file, its blocks;
 //! * [`facts`]: "The volume" and "The header", where a volume's parts lie, its label, and what a
 //!   header says;
 //! * [`attributes`]: "The header", what a file says of itself, its end among it;
 //! * [`runs`]: "The header" and "The volume", blocks of a file in a row, and free blocks in a row;
-//! * [`directory`]: "Names and directories" and request 1/14, look-up, the walker's step, and the
-//!   records past the end;
+//! * [`directory`]: "Names and directories", look-up and the walker's step;
 //! * [`verdict`]: "The verdict", its refusals with their places, its counts and its marks;
 //! * [`sound`]: "Demand 3, its words and its list", what the verdict is to accept, apart from it;
 //! * [`writing`]: "The verdict", create, extend and delete, which judge the volume first;
@@ -32,7 +30,6 @@
 pub mod answer;
 pub mod attributes;
 pub mod directory;
-pub mod end;
 pub mod facts;
 pub mod file;
 pub mod header;

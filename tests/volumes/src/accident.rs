@@ -3,7 +3,6 @@
 mod index;
 
 use crate::block::{put_long, put_word, seal_header, seal_home, BLOCK_BYTES};
-use crate::end::{End, F_EFBK, F_FFBY};
 use crate::header::{at, in_map, Areas, Pointer, MOST_POINTERS};
 use crate::random::Random;
 use crate::volume::{in_home, Volume, FORMAT, MAP_BITS, RECORD_BYTES};
@@ -19,7 +18,7 @@ pub fn random_changes(random: &mut Random, volume: &mut Volume) -> String {
 
 /// Makes one change of a volume at random, and answers it in words.
 fn random_change(random: &mut Random, volume: &mut Volume) -> String {
-    match random.below(13) {
+    match random.below(12) {
         0 => home_field(random, volume),
         1..=4 => header_field(random, volume),
         5 => pointer(random, volume),
@@ -27,7 +26,6 @@ fn random_change(random: &mut Random, volume: &mut Volume) -> String {
         7 => other_slot(random, volume),
         8 => record_byte(random, volume),
         9 => whole_block(random, volume),
-        10 => end_of_directory(random, volume),
         _ => some_byte(random, volume),
     }
 }
@@ -353,24 +351,6 @@ fn record_byte(random: &mut Random, volume: &mut Volume) -> String {
     format!("directory {directory}: byte {byte} in record {record} of LBN {lbn}")
 }
 
-/// Changes where a directory says that it ends: to any end, or a byte of it.
-fn end_of_directory(random: &mut Random, volume: &mut Volume) -> String {
-    let directory = *random.pick(&[4, volume.roles.directory]);
-    let end = End::random(random, volume.file(directory).blocks());
-    let lbn = volume.slot_of(directory);
-    let block = volume.block_mut(lbn);
-    let told = if random.once_in(2) {
-        end.put(block);
-        format!("{end:?}")
-    } else {
-        let place = random.between(F_EFBK, F_FFBY + 1);
-        block[place] = edge_byte(random, block[place]);
-        format!("end, byte {place} is {}", block[place])
-    };
-    let sum = seal_mostly(random, block);
-    format!("directory {directory}: {told}, {sum}")
-}
-
 /// The blocks that opening reads.
 fn blocks_read(random: &mut Random, volume: &Volume) -> u32 {
     let plan = &volume.plan;
@@ -543,24 +523,6 @@ mod tests {
             met[answer.number.number() as usize] += 1;
         }
         expect_met(&met, 1..=5, 20);
-    }
-
-    #[test]
-    fn random_changes_move_ends_of_directories() {
-        let mut moved = 0;
-        for seed in 0..2_000 {
-            let mut random = Random::new(seed);
-            let sound = random_volume(&mut random, Size::Small);
-            let mut volume = sound.clone();
-            random_changes(&mut random, &mut volume);
-            for number in [4, volume.roles.directory] {
-                let id = sound.file(number).id();
-                let records = |image| file::open(image, id).map(|file| file.records());
-                let (before, after) = (records(&sound.image), records(&volume.image));
-                moved += u64::from(after.is_ok() && before != after);
-            }
-        }
-        assert!(moved > 150, "{moved} ends moved");
     }
 
     #[test]

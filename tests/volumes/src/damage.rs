@@ -2,7 +2,6 @@
 //! it that breaks none. Each tells what a call then answers, by the paper and not by the model.
 
 mod chain;
-mod end;
 pub(crate) mod header;
 mod home;
 mod known;
@@ -186,7 +185,6 @@ pub fn damages() -> Vec<Damage> {
     all.extend(known::damages());
     all.extend(number::damages());
     all.extend(chain::damages());
-    all.extend(end::damages());
     all
 }
 
@@ -303,12 +301,10 @@ mod tests {
         let volumes = long_volumes_to_damage(6, 20);
         expect_applied(long_index_damages(), &volumes);
         let all = damages();
-        let none = all.iter().filter(|damage| {
+        let apply = all.iter().filter(|damage| {
             let times = applied(damage, &volumes[..10], Checksums::Left);
-            times + applied(damage, &volumes[10..], Checksums::PutRight) == 0
+            times + applied(damage, &volumes[10..], Checksums::PutRight) > 0
         });
-        let none: Vec<&str> = none.map(|damage| &damage.name[..]).collect();
-        // Eight are of an index file that has one header, and two of a chain of 256 headers.
-        assert!(none.len() <= 10, "{none:?} do not apply");
+        assert!(apply.count() + 10 > all.len());
     }
 }

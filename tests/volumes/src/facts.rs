@@ -1,8 +1,7 @@
 //! What a header says of its file, and a home block of its volume, that no rule of opening asks about:
 //! owners, protections, names, and where a file ends.
 
-use crate::block::{put_long, put_word};
-use crate::end::End;
+use crate::block::{put_long, put_word, BLOCK_BYTES};
 use crate::header::at;
 use crate::random::Random;
 use crate::volume::{in_home, Volume};
@@ -13,6 +12,81 @@ mod in_attributes {
     pub const F_RATT: usize = 1;
     pub const F_RSIZ: usize = 2;
     pub const F_HIBK: usize = 4;
+    pub const F_EFBK: usize = 8;
+    pub const F_FFBY: usize = 12;
+}
+
+/// Where the attributes of a header say that its file ends.
+#[derive(Clone, Copy, Debug, PartialEq, Eq)]
+pub struct End {
+    /// F.EFBK.
+    pub block: u32,
+    /// F.FFBY.
+    pub first_free: u16,
+    /// How many bytes of the file are before it, which this maker chose.
+    pub bytes: u64,
+}
+
+impl End {
+    /// No end is given: F.EFBK is 0, and every byte of the blocks is before it.
+    pub fn none(blocks: u32, first_free: u16) -> End {
+        End {
+            block: 0,
+            first_free,
+            bytes: bytes_of(blocks),
+        }
+    }
+
+    /// After so many bytes. Where that is at the end of a block, the end is in the block after it.
+    pub fn after(bytes: u64) -> End {
+        let block = BLOCK_BYTES as u64;
+        End {
+            block: (bytes / block) as u32 + 1,
+            first_free: (bytes % block) as u16,
+            bytes,
+        }
+    }
+
+    /// After so many blocks, all bytes of the last of which are before it.
+    pub fn of_full(blocks: u32) -> End {
+        End {
+            block: blocks,
+            first_free: BLOCK_BYTES as u16,
+            bytes: bytes_of(blocks),
+        }
+    }
+
+    /// Past the last byte of a file of so many blocks.
+    fn past(block: u32, first_free: u16, blocks: u32) -> End {
+        End {
+            block,
+            first_free,
+            bytes: bytes_of(blocks),
+        }
+    }
+
+    /// A random end of a file of less than 65,536 blocks: none, at the mapped end in either way, past
+    /// it by a byte, by many in its last block and by far, or before it.
+    fn random(random: &mut Random, blocks: u32) -> End {
+        let all = bytes_of(blocks);
+        match random.below(12) {
+            0 => End::none(blocks, 0),
+            1 => End::none(blocks, random.word()),
+            2 => End::after(all),
+            3 if blocks > 0 => End::of_full(blocks),
+            4 => End::past(blocks + 1, 1, blocks),
+            5 => End::past(blocks.max(1), random.word() | 1 << 15, blocks),
+            6 => End::past(random.number() as u32 | 1 << 16, random.word(), blocks),
+            7 => End::after(all.saturating_sub(1)),
+            8 => End::after(0),
+            _ => End::after(random.below(all + 1)),
+        }
+    }
+}
+
+/// The bytes of so many blocks.
+fn bytes_of(blocks: u32) -> u64 {
+    u64::from(blocks) * BLOCK_BYTES as u64
 }
 
 /// What a header says of its file.
@@ -45,20 +119,6 @@ impl Facts {
         }
     }
 
-    /// Nothing but where the file ends: all else is 0.
-    pub fn of_end(end: End) -> Facts {
-        Facts {
-            owner: 0,
-            protection: 0,
-            record_type: 0,
-            record_attributes: 0,
-            record_size: 0,
-            highest: 0,
-            end,
-            name: [0; 5],
-        }
-    }
-
     /// Puts the facts into a header, but for the name, whose place is the header's to know.
     pub fn put(&self, block: &mut [u8]) {
         put_word(block, at::H_FOWN, self.owner);
@@ -68,7 +128,8 @@ impl Facts {
         area[in_attributes::F_RATT] = self.record_attributes;
         put_word(area, in_attributes::F_RSIZ, self.record_size);
         put_long(area, in_attributes::F_HIBK, self.highest);
-        self.end.put(block);
+        put_long(area, in_attributes::F_EFBK, self.end.block);
+        put_word(area, in_attributes::F_FFBY, self.end.first_free);
     }
 }
 
@@ -189,5 +250,27 @@ mod tests {
         let name = [0x4241, 0x4443, 0x4645, 0x4847, 0x4a49, 0x4c4b];
         assert_eq!(answer.value[..6], name);
         assert_eq!(answer.value[6..], [1, 2, 3, 4]);
+    }
+
+    #[test]
+    fn ends_of_every_kind() {
+        let mut random = Random::new(8);
+        for blocks in [0, 1, 3, 1_000] {
+            let all = bytes_of(blocks);
+            let ends: Vec<End> = (0..400).map(|_| End::random(&mut random, blocks)).collect();
+            for end in &ends {
+                let said = u64::from(end.block.saturating_sub(1)) * 512;
+                let said = said + u64::from(end.first_free);
+                let expected = if end.block == 0 { all } else { said.min(all) };
+                assert_eq!(end.bytes, expected, "{end:?} of {blocks}");
+            }
+            let some = |test: &dyn Fn(&End) -> bool| ends.iter().any(test);
+            assert!(some(&|end| end.block == 0 && end.first_free != 0));
+            assert!(some(&|end| end.block == blocks + 1 && end.first_free == 0));
+            assert!(some(&|end| end.block == blocks + 1 && end.first_free == 1));
+            assert!(some(&|end| end.block > 65_535));
+            assert!(blocks == 0 || some(&|end| end.bytes < all));
+            assert!(blocks == 0 || some(&|end| *end == End::of_full(blocks)));
+        }
     }
 }

@@ -8,8 +8,7 @@
 
 use crate::block::put_word;
 use crate::directory::name_words;
-use crate::end::End;
-use crate::facts::Facts;
+use crate::facts::{End, Facts};
 use crate::header::{
     pointers_of, Areas, Header, Pointer, DEACCESS_LOCKED, MARKED_FOR_DELETE, MOST_POINTERS,
 };
@@ -352,8 +351,8 @@ pub fn name_of(number: u16) -> [u16; 5] {
     name_words(&format!("F{number:05}.DAT;1"))
 }
 
-/// Puts a record for each file into file 4, as far as there is room, which ends behind the last; past
-/// that an old record, if there is room; and the number of each file into its blocks.
+/// Puts a record for each file into file 4, as far as there is room, and the number of each file into
+/// its blocks.
 fn put_records(volume: &mut Volume) {
     let directory = volume.file(4).lbns();
     let places = directory.len() as u32 * BLOCK_RECORDS;
@@ -374,16 +373,7 @@ fn put_records(volume: &mut Volume) {
         let lbn = directory[(placed.place / BLOCK_RECORDS) as usize];
         placed.put(volume.block_mut(lbn));
     }
-    let count = records.len() as u32;
-    volume.put_end(4, End::after_records(count));
     volume.records = records;
-    if count < places {
-        let old = Record {
-            id: [6, 65_535, 0],
-            name: name_words("OLD.DAT;1"),
-        };
-        volume.leave_record(4, count, old);
-    }
     let files = volume.files.iter().filter(|file| file.number() > 5);
     let blocks = files.flat_map(|file| file.lbns().into_iter().map(|lbn| (lbn, file.number())));
     let blocks: Vec<(u32, u16)> = blocks.collect();
@@ -422,7 +412,6 @@ mod tests {
             assert!(volume.file(number).blocks() > 0);
         }
         assert!(volume.records.len() > 5);
-        assert_eq!(volume.file(4).records(), volume.records.len() as u32);
         expect_accepted(&volume);
         volume
     }

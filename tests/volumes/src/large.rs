@@ -1,8 +1,7 @@
 //! Sound volumes of many blocks: maps of 126, 255 and 16 blocks, a home at the last position with
 //! 4,079 passed over, and a bad block file of 37 headers.
 
-use crate::end::End;
-use crate::facts::Facts;
+use crate::facts::{End, Facts};
 use crate::header::{pointers_of, Areas, Header, Pointer, MOST_POINTERS};
 use crate::shapes::{bad_block_shares, MOST_BLOCKS};
 use crate::station::LABEL;
@@ -106,17 +105,13 @@ pub fn large_volume(plan: Plan) -> Volume {
     };
     let last = volume.last_number();
     volume.put_label(LABEL);
-    let directory = Facts::of_end(End::of_full(255));
     for header in [
         Header {
             areas: Areas::LARGEST,
             ..Header::new(1, 1, index)
         },
         Header::new(2, 2, storage),
-        Header {
-            facts: Some(directory),
-            ..Header::new(4, 4, vec![high(700)])
-        },
+        Header::new(4, 4, vec![high(700)]),
         Header::new(5, 5, vec![]),
         Header {
             facts: Some(HIGH_FACTS),

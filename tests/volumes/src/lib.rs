@@ -6,7 +6,6 @@
 //! * [`random`]: the generator of pseudo-random numbers;
 //! * [`block`]: words and checksums of a block;
 //! * [`header`]: what a header says, and how it is put;
-//! * [`end`]: where a file ends, in every place;
 //! * [`facts`]: what a header says of its file, and a home block of its volume;
 //! * [`volume`]: a volume, and the knowledge of what was put where;
 //! * [`volume_v`]: the paper's own example;
@@ -28,7 +27,6 @@ pub mod accident;
 pub mod block;
 pub mod damage;
 pub mod directory;
-pub mod end;
 pub mod facts;
 pub mod flaw;
 pub mod header;

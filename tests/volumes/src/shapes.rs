@@ -370,10 +370,10 @@ pub(crate) fn volume_of(
     ));
     add_files(random, &mut space, &mut numbers, &mut volume);
     leave_old_headers(random, &numbers, &mut volume);
-    // From numbers of their own, so that what a test draws next does not hang on them.
-    put_facts(&mut Random::new(!random.clone().number()), &mut volume);
     put_directories(random, &mut volume);
     volume.put_storage_map();
+    // From numbers of their own, so that what a test draws next does not hang on them.
+    put_facts(&mut Random::new(!random.clone().number()), &mut volume);
     volume
 }
 
@@ -384,12 +384,18 @@ fn add_files(random: &mut Random, space: &mut Space, numbers: &mut Vec<u16>, vol
         blocks,
         longest: 3,
     };
-    let master = random_directory(random, numbers);
-    volume.add(make_file(random, space, numbers, (4, 4), &master));
-    volume.add(make_file(random, space, numbers, (5, 5), &small(1, 0)));
+    let mut nobody = Vec::new();
+    let blocks = random.long_between(1, 3);
+    volume.add(make_file(
+        random,
+        space,
+        &mut nobody,
+        (4, 4),
+        &small(1, blocks),
+    ));
+    volume.add(make_file(random, space, &mut nobody, (5, 5), &small(1, 0)));
 
-    let directory = random_directory(random, numbers);
-    let chained = random_chain(random, space, numbers.len() + 1 - directory.headers);
+    let chained = random_chain(random, space, numbers);
     let mut add = |random: &mut Random, wanted: &Wanted, user: u8, system: u8| {
         let first = (
             numbers.pop().expect("eleven numbers"),
@@ -404,7 +410,7 @@ fn add_files(random: &mut Random, space: &mut Space, numbers: &mut Vec<u16>, vol
     let roles = Roles {
         chained: add(random, &chained, 0, 0),
         plain: add(random, &small(1, 5), 0, 0),
-        directory: add(random, &directory, 0, 0),
+        directory: add(random, &small(1, 2), 0, 0),
         empty: add(random, &small(1, 0), 0, 0),
         locked: add(random, &small(1, 1), DEACCESS_LOCKED, 0),
         marked: add(random, &small(1, 1), 0, MARKED_FOR_DELETE),
@@ -419,32 +425,10 @@ fn add_files(random: &mut Random, space: &mut Space, numbers: &mut Vec<u16>, vol
     }
 }
 
-/// What a directory needs: a block or more, and mostly one header, or several, as far as there are
-/// numbers for the files that every volume has.
-fn random_directory(random: &mut Random, numbers: &[u16]) -> Wanted {
-    let most = (numbers.len() - 8).min(4);
-    let more = if random.once_in(3) {
-        random.between(0, most)
-    } else {
-        0
-    };
-    let blocks = match random.below(4) {
-        0 => 1,
-        1 => random.long_between(3, 8),
-        _ => 2,
-    };
-    Wanted {
-        headers: 1 + more,
-        blocks: blocks.max(1 + more as u32),
-        longest: 3,
-    }
-}
-
-/// What the chained file needs: three headers or more, up to 256, of so many numbers that are left to
-/// the roles.
-fn random_chain(random: &mut Random, space: &Space, numbers: usize) -> Wanted {
+/// What the chained file needs: three headers or more, up to 256 where there are numbers.
+fn random_chain(random: &mut Random, space: &Space, numbers: &[u16]) -> Wanted {
     // Five other roles need a number each, and the first header is one of the chain's.
-    let most_headers = (numbers - 5).min(256);
+    let most_headers = (numbers.len() - 5).min(256);
     let most_blocks = space.free() / 2;
     let headers = match random.below(8) {
         0 => most_headers,
@@ -687,19 +671,6 @@ pub(crate) mod tests {
         expect_some(&volumes, "an empty header within a chain", |it| {
             any_header(it, &|header| header.link.0 != 0 && header.blocks() == 0)
         });
-        for number in [|_: &Volume| 4, |it: &Volume| it.roles.directory] {
-            let directory = |it: &Volume| it.file(number(it)).clone();
-            for headers in [1, 2, 3, 5] {
-                expect_some(&volumes, "headers of a directory", |it| {
-                    directory(it).headers.len() == headers
-                });
-            }
-            for blocks in [1, 2, 3, 8] {
-                expect_some(&volumes, "blocks of a directory", |it| {
-                    directory(it).blocks() == blocks
-                });
-            }
-        }
         expect_some(&volumes, "more storage", |it| {
             it.plan.storage_map_blocks() > 1 && it.plan.blocks % MAP_BITS != 0
         });

@@ -1,12 +1,10 @@
 //! A disk as a metering station has it: the known files, user file directories named after UICs, files
-//! with proper names in several versions, some of them fragmented, a few entries left behind that
-//! name a file that is no more, and past the ends of some directories what older ones left there, which
-//! no station sees.
+//! with proper names in several versions, some of them fragmented, and a few entries left behind that
+//! name a file that is no more.
 
 use crate::block::{put_word, BLOCK_BYTES};
 use crate::directory::name_words;
-use crate::end::End;
-use crate::facts::{Facts, Label};
+use crate::facts::{End, Facts, Label};
 use crate::header::{at, cut, pointers_of, Areas, Header, Pointer, DIRECTORY};
 use crate::random::Random;
 use crate::shapes::RL02_BLOCKS;
@@ -27,19 +25,16 @@ pub struct Wanted {
     pub old_sequences: usize,
     /// How many entries have a number that is not in use.
     pub not_in_use: usize,
-    /// How many entries lie past the end of a directory.
-    pub past_end: usize,
 }
 
 impl Wanted {
-    /// An RL02 disk: 50 directories, 2,000 files, 21 entries left behind, and 40 past an end.
+    /// An RL02 disk: 50 directories, 2,000 files, and 21 entries left behind.
     pub const RL02: Wanted = Wanted {
         blocks: RL02_BLOCKS,
         directories: 50,
         files: 2_000,
         old_sequences: 12,
         not_in_use: 9,
-        past_end: 40,
     };
 
     /// A disk of 800 blocks, for tests that make many.
@@ -49,7 +44,6 @@ impl Wanted {
         files: 40,
         old_sequences: 3,
         not_in_use: 2,
-        past_end: 8,
     };
 }
 
@@ -129,11 +123,6 @@ pub struct Station {
     pub old_sequences: Vec<Entry>,
     /// Entries whose number is not in use: opening one is NUMBER.
     pub not_in_use: Vec<Entry>,
-    /// Entries past the end of a user file directory. What opening one comes to is as it happens, and a
-    /// name may be one of the directory's own.
-    pub past_end: Vec<Entry>,
-    /// Entries past the end of the master directory: name and ID. Not every disk has any.
-    pub past_master_end: Vec<(String, Id)>,
 }
 
 impl Station {
@@ -161,8 +150,8 @@ impl Station {
         inside.count()
     }
 
-    /// How many entries all directories have before their ends: the master directory's for the known
-    /// files and the directories, and those of the directories.
+    /// How many entries all directories have: the master directory's for the known files and the
+    /// directories, and those of the directories.
     pub fn entries(&self) -> usize {
         let stale = self.old_sequences.len() + self.not_in_use.len();
         KNOWN_FILES.len() + self.directories.len() + self.files.len() + stale
@@ -178,15 +167,13 @@ pub fn station(seed: u64) -> Station {
 pub fn station_of(seed: u64, wanted: Wanted) -> Station {
     assert!(wanted.directories > 0 && wanted.files > 0);
     let mut random = Random::of_case(seed, "station", 0);
-    let past_master = plan_past_master(&mut random, &wanted);
-    let drawers = plan_entries(&mut random, &wanted, past_master);
+    let drawers = plan_entries(&mut random, &wanted);
     let (plan, space) = plan_volume(&wanted);
     let mut maker = Maker::new(random, plan, space, &wanted);
-    maker.add_known_files(wanted.directories, past_master);
+    maker.add_known_files(wanted.directories);
     maker.add_directories(&drawers);
     maker.add_files(&drawers);
     maker.leave_entries_behind(&drawers);
-    maker.leave_entries_past_ends(&drawers, past_master);
     maker.list_all();
     maker.station.volume.put_storage_map();
     maker.station
@@ -198,11 +185,10 @@ struct Drawer {
     files: Vec<String>,
     old_sequences: Vec<String>,
     not_in_use: Vec<String>,
-    past_end: Vec<String>,
 }
 
 impl Drawer {
-    /// How many entries there will be before the end.
+    /// How many entries there will be.
     fn entries(&self) -> usize {
         self.files.len() + self.old_sequences.len() + self.not_in_use.len()
     }
@@ -258,16 +244,8 @@ impl Names {
     }
 }
 
-/// How many entries lie past the end of the master directory: none, every other time, or a few.
-fn plan_past_master(random: &mut Random, wanted: &Wanted) -> usize {
-    match random.below(2) {
-        0 => 0,
-        _ => random.between(1, 3).min(wanted.past_end),
-    }
-}
-
-/// The names of every directory's entries, with so many less past the ends.
-fn plan_entries(random: &mut Random, wanted: &Wanted, past_master: usize) -> Vec<Drawer> {
+/// The names of every directory's entries.
+fn plan_entries(random: &mut Random, wanted: &Wanted) -> Vec<Drawer> {
     let mut names: Vec<Names> = (0..wanted.directories).map(|_| Names::new()).collect();
     let mut drawers = vec![Drawer::default(); wanted.directories];
     let mut spread =
@@ -283,29 +261,7 @@ fn plan_entries(random: &mut Random, wanted: &Wanted, past_master: usize) -> Vec
         &mut drawer.old_sequences
     });
     spread(random, wanted.not_in_use, |drawer| &mut drawer.not_in_use);
-    // Some directories have entries past their end, several of them.
-    let past_end = wanted.past_end - past_master;
-    let places: Vec<usize> = (0..past_end.div_ceil(4))
-        .map(|_| random.between(0, names.len() - 1))
-        .collect();
-    for _ in 0..past_end {
-        let place = *random.pick(&places);
-        let name = name_past_end(random, &drawers[place], &mut names[place]);
-        drawers[place].past_end.push(name);
-    }
     drawers
-}
-
-/// A name of an entry past the end of a directory: now and then that of a file that is listed there, and
-/// otherwise one that is not, and no two equal.
-fn name_past_end(random: &mut Random, drawer: &Drawer, names: &mut Names) -> String {
-    if !drawer.files.is_empty() && random.once_in(3) {
-        let name = random.pick(&drawer.files);
-        if !drawer.past_end.contains(name) {
-            return name.clone();
-        }
-    }
-    names.next(random)
 }
 
 /// How many numbers stay unused beside those that entries left behind have.
@@ -380,22 +336,20 @@ impl Maker {
                 files: Vec::new(),
                 old_sequences: Vec::new(),
                 not_in_use: Vec::new(),
-                past_end: Vec::new(),
-                past_master_end: Vec::new(),
             },
         }
     }
 
     /// Puts files 1 to 5. The bad block file has the last block, as a new disk has it, and the core
     /// image file has none.
-    fn add_known_files(&mut self, directories: usize, past_end: usize) {
+    fn add_known_files(&mut self, directories: usize) {
         let plan = &self.station.volume.plan;
         let last = plan.blocks - 1;
         let index = pointers_of(&plan.index_lbns());
         let storage = pointers_of(&plan.storage_lbns());
         self.space.take(last);
         let bad_blocks = pointers_of(&[last]);
-        let master = self.take_for_a_directory(KNOWN_FILES.len() + directories, past_end);
+        let master = self.take_in_a_row(directory_blocks(KNOWN_FILES.len() + directories));
         let all = [index, storage, bad_blocks, pointers_of(&master), Vec::new()];
         for ((number, name), pointers) in (1..).zip(KNOWN_FILES).zip(all) {
             let mut header = Header::new(number, number, pointers);
@@ -415,7 +369,7 @@ impl Maker {
             let project = u8::try_from(project).expect("a project number for all");
             let name = format!("{project:03o}{programmer:03o}.DIR;1");
             let uic = u16::from_be_bytes([project, programmer as u8]);
-            let lbns = self.take_for_a_directory(drawer.entries(), drawer.past_end.len());
+            let lbns = self.take_in_a_row(directory_blocks(drawer.entries()));
             let mut header = self.next_header(pointers_of(&lbns));
             header.facts = Some(block_facts(uic, header.blocks(), &name));
             let file = File::of(directory_header(header));
@@ -466,14 +420,6 @@ impl Maker {
             Some(start) => (start..start + count).collect(),
             None => self.space.take_blocks(&mut self.random, count, count),
         }
-    }
-
-    /// Takes the blocks of a directory, with room for so many entries and for more than so many past its
-    /// end, and now and then one block more.
-    fn take_for_a_directory(&mut self, entries: usize, past_end: usize) -> Vec<u32> {
-        let places = place_of(entries as u32) + 2 * past_end as u32;
-        let more = u32::from(self.random.once_in(3));
-        self.take_in_a_row(places.div_ceil(BLOCK_RECORDS).max(1) + more)
     }
 
     /// Takes the blocks of a file: few, now and then many or none, and every fourth time in pieces, of
@@ -590,71 +536,19 @@ impl Maker {
         }
     }
 
-    /// Makes the entries past the ends of directories, so many of them past that of the master directory.
-    fn leave_entries_past_ends(&mut self, drawers: &[Drawer], past_master: usize) {
-        for (directory, drawer) in drawers.iter().enumerate() {
-            for name in &drawer.past_end {
-                let files = self.station.files.iter().map(|file| &file.entry);
-                let mut own = files.filter(|it| it.directory == directory && it.name == *name);
-                let id = match own.next() {
-                    Some(own) if self.random.once_in(2) => own.id,
-                    _ => {
-                        let now = self.random.pick(&self.station.files).entry.id;
-                        self.id_of_old(now)
-                    }
-                };
-                self.station.past_end.push(entry(directory, name, id));
-            }
-        }
-        for number in 0..past_master {
-            let directory = self.random.pick(&self.station.directories).clone();
-            let old = (
-                format!("3{number:02o}377.DIR;1"),
-                self.id_of_old(directory.id),
-            );
-            // The first may be one of the master directory's own.
-            let entry = if number == 0 && self.random.once_in(2) {
-                (directory.name, directory.id)
-            } else {
-                old
-            };
-            self.station.past_master_end.push(entry);
-        }
-    }
-
-    /// An ID of an old entry: that of a file that is there now, an older sequence of it, or a number
-    /// that is not in use.
-    fn id_of_old(&mut self, now: Id) -> Id {
-        let older = self.random.between(1, usize::from(now.sequence) - 1) as u16;
-        match self.random.below(3) {
-            0 => now,
-            1 => Id::from_words([now.number, older, 0]),
-            _ => Id::from_words([*self.random.pick(&self.unused), older, 0]),
-        }
-    }
-
     /// Puts the records of all directories.
     fn list_all(&mut self) {
-        let station = &self.station;
         let known = (1..).zip(KNOWN_FILES);
         let known = known.map(|(n, name)| (Id::from_words([n, n, 0]), name.to_string()));
-        let directories = station.directories.iter();
+        let directories = self.station.directories.iter();
         let directories = directories.map(|it| (it.id, it.name.clone()));
-        let past_master_end = station.past_master_end.iter();
-        let past_master_end = past_master_end.map(|(name, id)| (*id, name.clone()));
-        let mut lists = vec![(
-            4,
-            known.chain(directories).collect(),
-            past_master_end.collect(),
-        )];
-        for (place, directory) in station.directories.iter().enumerate() {
-            let past_end = entries_of(place, station.past_end.iter());
-            lists.push((directory.id.number, self.entries_of(place), past_end));
+        let mut lists = vec![(4, known.chain(directories).collect())];
+        for (place, directory) in self.station.directories.iter().enumerate() {
+            let entries = self.entries_of(place);
+            lists.push((directory.id.number, entries));
         }
-        for (number, entries, past_end) in lists {
-            self.put_end_of(number, entries.len(), past_end.len());
+        for (number, entries) in lists {
             self.list(number, entries);
-            self.list_past_end(number, past_end);
         }
     }
 
@@ -663,25 +557,8 @@ impl Maker {
         let files = self.station.files.iter().map(|file| &file.entry);
         let behind = self.station.old_sequences.iter();
         let all = files.chain(behind).chain(&self.station.not_in_use);
-        entries_of(directory, all)
-    }
-
-    /// Ends a directory right behind its last record: the last of so many entries, or now and then an
-    /// empty one at the edge of a block, if so many more have room past it. An end at an edge is said in
-    /// either way.
-    fn put_end_of(&mut self, directory: u16, entries: usize, past_end: usize) {
-        let records = place_of(entries as u32);
-        let blocks = records.div_ceil(BLOCK_RECORDS);
-        let mapped = self.station.volume.file(directory).blocks();
-        let edge = BLOCK_RECORDS * blocks;
-        let has_room = past_end == 0 || edge + (past_end as u32) < BLOCK_RECORDS * mapped;
-        let is_edge = records == edge || has_room && self.random.once_in(5);
-        let end = match self.random.below(2) {
-            _ if !is_edge => End::after_records(records),
-            0 if blocks > 0 => End::of_full(blocks),
-            _ => End::after_records(edge),
-        };
-        self.station.volume.put_end(directory, end);
+        let own = all.filter(|entry| entry.directory == directory);
+        own.map(|entry| (entry.id, entry.name.clone())).collect()
     }
 
     /// Puts the records of a directory, in any order, and in every ninth place one that is empty.
@@ -705,41 +582,17 @@ impl Maker {
             }
         }
     }
-
-    /// Leaves records past the end of a directory, as often right behind it as anywhere, and one that is
-    /// empty.
-    fn list_past_end(&mut self, directory: u16, entries: Vec<(Id, String)>) {
-        let file = self.station.volume.file(directory);
-        let mut places: Vec<u32> = (file.records()..BLOCK_RECORDS * file.blocks()).collect();
-        let empty = entries.last().map(|(_, name)| {
-            let no_number = Id::from_words([0, 1, 0]);
-            (no_number, name.clone())
-        });
-        for (id, name) in entries.into_iter().chain(empty) {
-            let place = match self.random.below(2) {
-                0 => 0,
-                _ => self.random.between(0, places.len() - 1),
-            };
-            let record = Record {
-                id: id.words(),
-                name: name_words(&name),
-            };
-            let volume = &mut self.station.volume;
-            volume.leave_record(directory, places.remove(place), record);
-        }
-    }
 }
 
-/// Those of some entries that a user file directory has: ID and name.
-fn entries_of<'e>(directory: usize, all: impl Iterator<Item = &'e Entry>) -> Vec<(Id, String)> {
-    let own = all.filter(|entry| entry.directory == directory);
-    own.map(|entry| (entry.id, entry.name.clone())).collect()
-}
-
-/// The place of an entry among the records of its directory, and so how many records the entries before
-/// it have, with the empty ones between them.
+/// The place of an entry among the records of its directory.
 fn place_of(entry: u32) -> u32 {
     entry + entry / 8
+}
+
+/// The blocks of a directory with room for so many entries, and for the empty ones between them.
+fn directory_blocks(entries: usize) -> u32 {
+    let places = place_of(entries as u32);
+    places / BLOCK_RECORDS + 1
 }
 
 /// In how many pieces blocks lie.
@@ -757,12 +610,11 @@ fn entry(directory: usize, name: &str, id: Id) -> Entry {
     }
 }
 
-/// The header of a directory: fixed records of 16 bytes, and none yet.
+/// The header of a directory: fixed records of 16 bytes.
 fn directory_header(header: Header) -> Header {
     let facts = header.facts.map(|facts| Facts {
         record_type: FIXED,
         record_size: 16,
-        end: End::after(0),
         ..facts
     });
     Header {
@@ -827,18 +679,13 @@ mod tests {
         assert_eq!(answer, Answer::done(&counts));
     }
 
-    /// The model's step over records: those before an end, or those past it.
-    type Step = fn(&file::Opened, u64) -> Answer;
-    const BEFORE: Step = directory::answer_next_record;
-    const PAST: Step = directory::answer_next_past_end;
-
     /// All entries of a directory: name and ID, as the model walks it.
-    fn walked(station: &Station, id: Id, step: Step) -> BTreeSet<(String, [u16; 3])> {
+    fn walked(station: &Station, id: Id) -> BTreeSet<(String, [u16; 3])> {
         let opened = file::open(station.image(), id);
         let mut found = BTreeSet::new();
         let mut place = 0;
         loop {
-            let answer = step(&opened, place);
+            let answer = directory::answer_next_record(&opened, place);
             if answer.number == Number::Absent {
                 return found;
             }
@@ -863,38 +710,17 @@ mod tests {
                 .iter()
                 .map(|it| (it.name.clone(), it.id.words())),
         );
-        assert_eq!(walked(station, Id::from_words([4, 4, 0]), BEFORE), master);
+        assert_eq!(walked(station, Id::from_words([4, 4, 0])), master);
         let mut count = master.len();
         for (place, directory) in station.directories.iter().enumerate() {
             let files = station.files.iter().map(|file| &file.entry);
             let behind = station.old_sequences.iter().chain(&station.not_in_use);
             let own = files.chain(behind).filter(|it| it.directory == place);
             let own: BTreeSet<_> = own.map(|it| (it.name.clone(), it.id.words())).collect();
-            let found = walked(station, directory.id, BEFORE);
-            assert_eq!(found, own, "{}", directory.name);
+            assert_eq!(walked(station, directory.id), own, "{}", directory.name);
             count += own.len();
         }
         assert_eq!(count, station.entries());
-    }
-
-    /// Sees that past the ends of directories lies just what the builder says.
-    fn expect_past_ends(station: &Station) {
-        let master = station.past_master_end.iter();
-        let master: BTreeSet<_> = master.map(|it| (it.0.clone(), it.1.words())).collect();
-        let found = walked(station, Id::from_words([4, 4, 0]), PAST);
-        assert_eq!(found, master);
-        let mut count = master.len();
-        for (place, directory) in station.directories.iter().enumerate() {
-            let own = station.past_end.iter().filter(|it| it.directory == place);
-            let own: BTreeSet<_> = own.map(|it| (it.name.clone(), it.id.words())).collect();
-            let found = walked(station, directory.id, PAST);
-            assert_eq!(found, own, "{}", directory.name);
-            count += own.len();
-        }
-        let all = station.past_end.len() + station.past_master_end.len();
-        assert_eq!(count, all);
-        let records = station.volume.past_end.iter();
-        assert_eq!(records.filter(|it| it.record.id[0] != 0).count(), all);
     }
 
     /// Sees that each file opens with its blocks, its end and its content.
@@ -928,7 +754,6 @@ mod tests {
         let station = station(1);
         expect_accepted(&station);
         expect_listed(&station);
-        expect_past_ends(&station);
         expect_files(&station);
         expect_left_behind(&station);
         assert_eq!(station.image().len(), 20_480 * 512);
@@ -936,7 +761,6 @@ mod tests {
         assert_eq!(station.files.len(), 2_000);
         assert_eq!(station.old_sequences.len(), 12);
         assert_eq!(station.not_in_use.len(), 9);
-        assert_eq!(station.past_end.len() + station.past_master_end.len(), 40);
         assert_eq!(station.chained(), 10);
         assert!((300..1_500).contains(&station.fragmented()));
         assert!((500..1_900).contains(&station.ended_inside()));
@@ -979,7 +803,6 @@ mod tests {
             files: 1,
             old_sequences: 0,
             not_in_use: 0,
-            past_end: 0,
         };
         let crowded = Wanted {
             blocks: 400,
@@ -987,7 +810,6 @@ mod tests {
             files: 100,
             old_sequences: 30,
             not_in_use: 30,
-            past_end: 60,
         };
         let large = Wanted {
             blocks: 40_000,
@@ -1000,70 +822,13 @@ mod tests {
                 let station = station_of(seed, wanted);
                 expect_accepted(&station);
                 expect_listed(&station);
-                expect_past_ends(&station);
                 expect_files(&station);
                 expect_left_behind(&station);
                 assert_eq!(station.files.len(), wanted.files);
                 assert_eq!(station.old_sequences.len(), wanted.old_sequences);
                 assert_eq!(station.not_in_use.len(), wanted.not_in_use);
-                let past_end = station.past_end.len() + station.past_master_end.len();
-                assert_eq!(past_end, wanted.past_end);
             }
         }
-    }
-
-    #[test]
-    fn directories_end_behind_their_last_record() {
-        let mut met = [0; 6];
-        for seed in 0..200 {
-            let station = station_of(seed, Wanted::SMALL);
-            let volume = &station.volume;
-            let numbers = station.directories.iter().map(|it| it.id.number);
-            for number in numbers.chain([4]) {
-                let own = volume.records.iter().filter(|it| it.directory == number);
-                let count = own.map(|it| it.place + 1).max().unwrap_or(0);
-                let file = volume.file(number);
-                let end = file.end().expect("a directory has an end");
-                let edge = count.next_multiple_of(BLOCK_RECORDS);
-                assert!([count, edge].contains(&end.records()), "{end:?}");
-                assert_eq!(end.bytes, 16 * u64::from(end.records()));
-                let is_full = end.records().div_ceil(BLOCK_RECORDS) == file.blocks();
-                let has_more = volume.past_end.iter().any(|it| it.directory == number);
-                let kinds = [
-                    end.first_free == 512,
-                    end.first_free == 0 && end.block > 1,
-                    (1..512).contains(&end.first_free),
-                    !is_full && !has_more,
-                    has_more && number == 4,
-                    has_more && end.records() == edge,
-                ];
-                for (times, is_so) in met.iter_mut().zip(kinds) {
-                    *times += u32::from(is_so);
-                }
-            }
-        }
-        assert!(met.iter().all(|&times| times >= 5), "{met:?}");
-    }
-
-    #[test]
-    fn entries_past_an_end_of_every_kind() {
-        let station = station(4);
-        let opening = |it: &&Entry| file::open(station.image(), it.id).err();
-        let count = |test: &dyn Fn(&&Entry) -> bool| station.past_end.iter().filter(test).count();
-        let files: BTreeSet<(usize, &str)> = station
-            .files
-            .iter()
-            .map(|it| (it.entry.directory, &it.entry.name[..]))
-            .collect();
-        let is_listed = |it: &&Entry| files.contains(&(it.directory, &it.name[..]));
-        let met = [
-            count(&|it| opening(it).is_none()),
-            count(&|it| opening(it) == Some(Number::Sequence)),
-            count(&|it| opening(it) == Some(Number::Number)),
-            count(&is_listed),
-            count(&|it| !is_listed(it)),
-        ];
-        assert!(met.iter().all(|&times| times >= 3), "{met:?}");
     }
 
     #[test]

@@ -1,8 +1,7 @@
 //! Volumes: an image, and the knowledge of what was put where.
 
 use crate::block::{put_long, put_word, put_words, seal_home, BLOCK_BYTES};
-use crate::end::End;
-use crate::facts::{Facts, Label};
+use crate::facts::Label;
 use crate::header::{pointers_of, Areas, Header, Pointer};
 use model::Id;
 
@@ -138,16 +137,6 @@ impl File {
     pub fn blocks(&self) -> u32 {
         self.pointers().map(|pointer| pointer.blocks).sum()
     }
-
-    /// Where its first header says that it ends, if that is known.
-    pub fn end(&self) -> Option<End> {
-        self.headers[0].facts.map(|facts| facts.end)
-    }
-
-    /// How many records lie below its end: none, where nothing is known of that.
-    pub fn records(&self) -> u32 {
-        self.end().map_or(0, |end| end.records())
-    }
 }
 
 /// A directory record: ID and name as words.
@@ -207,10 +196,7 @@ pub struct Volume {
     /// The LBN of each VBN of the index file.
     pub index: Vec<u32>,
     pub files: Vec<File>,
-    /// The records that lie below the end of their directory.
     pub records: Vec<Placed>,
-    /// The records that lie past the end of their directory, or that it cuts through.
-    pub past_end: Vec<Placed>,
     pub roles: Roles,
     /// What the home block says of the volume, if it says anything.
     pub label: Option<Label>,
@@ -227,7 +213,6 @@ impl Volume {
             plan,
             files: Vec::new(),
             records: Vec::new(),
-            past_end: Vec::new(),
             roles: Roles::default(),
             label: None,
         };
@@ -355,7 +340,7 @@ impl Volume {
 
     /// Puts files 1 to 5, of one header each: the index file, with these areas, and the storage map file
     /// where the plan has them, the bad block file and the directory with these pointers, and the last
-    /// without blocks. The directory ends where its blocks do.
+    /// without blocks.
     pub fn add_known(&mut self, areas: Areas, bad_blocks: Vec<Pointer>, directory: Vec<Pointer>) {
         let index = pointers_of(&self.plan.index_lbns());
         let storage = pointers_of(&self.plan.storage_lbns());
@@ -368,8 +353,6 @@ impl Volume {
         for (number, pointers) in (2..).zip(others) {
             self.add(File::of(Header::new(number, number, pointers)));
         }
-        let all = BLOCK_RECORDS * self.file(4).blocks();
-        self.put_end(4, End::after_records(all));
     }
 
     /// All headers of files.
@@ -400,25 +383,8 @@ impl Volume {
         file.expect("a file of the volume")
     }
 
-    /// Puts a record into a directory, at a place from 0. Where the directory ends before it, or in it,
-    /// the end moves right behind it.
+    /// Puts a record into a directory, at a place from 0.
     pub fn put_record(&mut self, directory: u16, place: u32, record: Record) {
-        if self.file(directory).records() <= place {
-            self.put_end(directory, End::after_records(place + 1));
-        }
-        let placed = self.put_words_of(directory, place, record);
-        self.records.push(placed);
-    }
-
-    /// Leaves a record past the end of a directory, or where the end cuts through it, at a place from 0.
-    pub fn leave_record(&mut self, directory: u16, place: u32, record: Record) {
-        assert!(place >= self.file(directory).records(), "past the end");
-        let placed = self.put_words_of(directory, place, record);
-        self.past_end.push(placed);
-    }
-
-    /// Puts the words of a record.
-    fn put_words_of(&mut self, directory: u16, place: u32, record: Record) -> Placed {
         let lbns = self.file(directory).lbns();
         let placed = Placed {
             directory,
@@ -426,23 +392,7 @@ impl Volume {
             record,
         };
         placed.put(self.block_mut(lbns[(place / BLOCK_RECORDS) as usize]));
-        placed
-    }
-
-    /// Gives a directory an end. Its records are then those that lie below it.
-    pub fn put_end(&mut self, directory: u16, end: End) {
-        self.edit_header(directory, |header| {
-            let facts = header.facts.unwrap_or(Facts::of_end(end));
-            header.facts = Some(Facts { end, ..facts });
-        });
-        let is_below = |it: &Placed| it.place < end.records();
-        let is_own = |it: &Placed| it.directory == directory;
-        let records = std::mem::take(&mut self.records).into_iter();
-        let (below, out): (Vec<_>, Vec<_>) = records.partition(|it| !is_own(it) || is_below(it));
-        let past = std::mem::take(&mut self.past_end).into_iter();
-        let (into, past): (Vec<_>, Vec<_>) = past.partition(|it| is_own(it) && is_below(it));
-        self.records = [below, into].concat();
-        self.past_end = [past, out].concat();
+        self.records.push(placed);
     }
 
     /// Which blocks a pointer of a file covers.

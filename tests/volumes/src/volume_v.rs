@@ -2,9 +2,10 @@
 //! covers 0–18; 2: 19–20; 3: 99; 4: 21; 5: none; 6, sequence 9: 30–31, then 25. Unused slots are
 //! zero. Block 21 has one record, READS.DAT;1 to 6,9,0."
 //!
-//! Paper 02, 1/14: "In V, header 4 gets block 1 and byte 16." What the papers leave free is 0, but that
-//! blocks 25, 30 and 31 each hold a byte of their own, so that their blocks can be told apart.
+//! What the paper leaves free is 0, but for two things: blocks 25, 30 and 31 each hold a byte of
+//! their own, so that their blocks can be told apart, and header 4 says where its file ends.
 
+use crate::block::{put_word, seal_header};
 use crate::header::{Header, Pointer};
 use crate::volume::{File, Plan, Record, Volume};
 
@@ -23,6 +24,9 @@ const POINTERS: [&[(u32, u32)]; 6] = [
     &[],
     &[(30, 2), (25, 1)],
 ];
+
+/// Where a header says in which block its file ends, and at which byte of it.
+const END_OF_FILE: usize = 24;
 
 /// Volume V.
 pub fn volume_v() -> Volume {
@@ -44,7 +48,7 @@ pub fn volume_v() -> Volume {
         let header = Header::new(number, sequence, pointers.collect());
         volume.add(File::of(header));
     }
-    // File 4 ends right behind its one record: at byte 16 of block 1.
+    put_end_of_file(volume.block_mut(6));
     let record = Record {
         id: [6, 9, 0],
         name: READS,
@@ -58,6 +62,13 @@ pub fn volume_v() -> Volume {
     volume.roles.directory = 4;
     volume.roles.empty = 5;
     volume
+}
+
+/// Header 4's file ends in its first block, after the one record.
+fn put_end_of_file(header: &mut [u8]) {
+    put_word(header, END_OF_FILE, 1);
+    put_word(header, END_OF_FILE + 2, 16);
+    seal_header(header);
 }
 
 #[cfg(test)]

@@ -1,4 +1,4 @@
-//! Directory entries, and records past a directory's end: name, ID, and what opening the ID answers.
+//! Directory entries: name, ID, and what opening the ID answers.
 
 use std::fmt::Write;
 
@@ -37,12 +37,6 @@ fn put_id(text: &mut String, id: FileId) {
     put_number(text, id.sequence.into());
     text.push(',');
     put_number(text, id.volume.into());
-}
-
-/// Puts a number of blocks.
-fn put_blocks(text: &mut String, blocks: u32) {
-    put_number(text, blocks);
-    text.push_str(if blocks == 1 { " block" } else { " blocks" });
 }
 
 /// Puts what stands in a column, and blanks up to the next column, at least one.
@@ -95,9 +89,20 @@ impl Entry {
 
     /// A line of a listing.
     pub fn put_line(&self, text: &mut String) {
-        self.put_columns(text, if self.is_stale() { "! " } else { "  " });
+        text.push_str(if self.is_stale() { "! " } else { "  " });
+        put_column(text, NAME_WIDTH, |text| {
+            text.push_str(&name_text(self.name))
+        });
+        put_column(text, ID_WIDTH, |text| put_id(text, self.id));
         match &self.opened {
-            Ok(attributes) => put_blocks(text, attributes.blocks),
+            Ok(attributes) => {
+                put_number(text, attributes.blocks);
+                text.push_str(if attributes.blocks == 1 {
+                    " block"
+                } else {
+                    " blocks"
+                });
+            }
             Err(refused) => {
                 text.push_str(refused.refusal.name());
                 if self.is_stale() {
@@ -105,20 +110,6 @@ impl Entry {
                 }
             }
         }
-        self.put_now(text);
-    }
-
-    /// Puts a mark, the name and the ID.
-    fn put_columns(&self, text: &mut String, mark: &str) {
-        text.push_str(mark);
-        put_column(text, NAME_WIDTH, |text| {
-            text.push_str(&name_text(self.name))
-        });
-        put_column(text, ID_WIDTH, |text| put_id(text, self.id));
-    }
-
-    /// Puts whose the number is now, and ends the line.
-    fn put_now(&self, text: &mut String) {
         if let Some(now) = &self.now {
             write!(text, ", the number is now {now}").expect("a string can be written to");
         }
@@ -127,17 +118,11 @@ impl Entry {
 
     /// The entry as JSON.
     pub fn json(&self) -> Value {
-        let mut object = self.record_json();
-        object["stale"] = self.is_stale().into();
-        object
-    }
-
-    /// The record as JSON, and what opening its ID answers.
-    fn record_json(&self) -> Value {
         let mut object = json!({
             "name": name_text(self.name),
             "id": self.id.to_string(),
             "answer": answer(self.opened.as_ref().err().copied()),
+            "stale": self.is_stale(),
         });
         if let Ok(attributes) = &self.opened {
             object["blocks"] = attributes.blocks.into();
@@ -146,38 +131,6 @@ impl Entry {
         if let Some(now) = &self.now {
             object["now"] = now.json();
         }
-        object
-    }
-}
-
-/// A record past a directory's end, and what opening its ID answers. It is no entry: no look-up finds it.
-pub struct PastEnd(Entry);
-
-impl PastEnd {
-    /// Opens the ID of a record.
-    pub fn of(image: &[u8], record: Record) -> PastEnd {
-        PastEnd(Entry::of(image, record))
-    }
-
-    /// A line of a listing, which looks like no entry's.
-    pub fn put_line(&self, text: &mut String) {
-        let PastEnd(entry) = self;
-        entry.put_columns(text, "- ");
-        text.push_str("past the end: ");
-        match &entry.opened {
-            Ok(attributes) => {
-                text.push_str("opens, ");
-                put_blocks(text, attributes.blocks);
-            }
-            Err(refused) => text.push_str(refused.refusal.name()),
-        }
-        entry.put_now(text);
-    }
-
-    /// The record as JSON: as an entry, but that it cannot be stale, and a member says that it is none.
-    pub fn json(&self) -> Value {
-        let mut object = self.0.record_json();
-        object["past_end"] = true.into();
         object
     }
 }

@@ -156,18 +156,17 @@ fn an_audit_walks_each_directory_once() {
 #[test]
 fn ls_takes_the_names_that_audit_gives() {
     let scratch = folder_with("names", &odd_directories().image);
-    let no_end = " (its header gives no end)";
-    for (name, id, records, end) in [
-        ("[0,0]", "4,4,0", "10 records", ""),
-        ("[1,2]", "7,1,0", "3 records", ""),
-        ("[STATIONS]", "8,2,0", "1 record", ""),
-        ("[0,0]FLAGGED.DAT;3", "9,3,0", "0 records", no_end),
-        ("[0,0]EIGHTS.DIR;2", "11,5,0", "0 records", no_end),
-        ("[1,2]SUB.DIR;1", "12,6,0", "1 record", ""),
+    for (name, id, records) in [
+        ("[0,0]", "4,4,0", "10 records"),
+        ("[1,2]", "7,1,0", "3 records"),
+        ("[STATIONS]", "8,2,0", "1 record"),
+        ("[0,0]FLAGGED.DAT;3", "9,3,0", "0 records"),
+        ("[0,0]EIGHTS.DIR;2", "11,5,0", "0 records"),
+        ("[1,2]SUB.DIR;1", "12,6,0", "1 record"),
     ] {
         let out = text(scratch.folder(), &format!("ls v.dsk {name}"));
         let last = out.lines().last().expect("a line");
-        assert_eq!(last, format!("{records} in the directory {id}{end}"));
+        assert_eq!(last, format!("{records} in the directory {id}"));
         assert_eq!(text(scratch.folder(), &format!("ls v.dsk {id}")), out);
     }
 }
@@ -181,10 +180,8 @@ fn directories_that_do_not_open() {
         ("[OLD]", "7,65535,0", "answer 9 SEQUENCE place 0"),
         ("[OTHER]", "7,1,1", "answer 6 RELVOL place 0"),
     ] {
-        for line in ["ls v.dsk", "ls --past-end v.dsk"] {
-            let line = format!("{line} {name}");
-            expect_refused(scratch.folder(), &line, &format!("opening {id}"), answer);
-        }
+        let line = format!("ls v.dsk {name}");
+        expect_refused(scratch.folder(), &line, &format!("opening {id}"), answer);
         let line = format!("cat v.dsk {name}A.DAT;1");
         let doing = format!("looking up A.DAT;1 in the directory {id}");
         expect_refused(scratch.folder(), &line, &doing, answer);

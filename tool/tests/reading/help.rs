@@ -62,18 +62,6 @@ fn short_help_is_short() {
     }
 }
 
-/// What listings leave out is told where they are explained.
-#[test]
-fn help_says_where_records_past_the_end_are_shown() {
-    for verb in ["audit", "ls"] {
-        let long = help(&format!("{verb} --help"));
-        let words: Vec<&str> = long.split_whitespace().collect();
-        let text = words.join(" ");
-        assert!(text.contains("directory's end of file"), "{text}");
-        assert!(text.contains("ods1 ls --past-end"), "{text}");
-    }
-}
-
 #[test]
 fn the_version() {
     assert_eq!(

@@ -3,9 +3,7 @@
 use std::collections::HashMap;
 
 use serde_json::{json, Value};
-use volumes::end::End;
 use volumes::station::{Directory, Station, KNOWN_FILES};
-use volumes::volume::Placed;
 
 use crate::asked::done;
 
@@ -43,7 +41,7 @@ enum Opening {
     Number,
 }
 
-/// An entry of a directory, or a record past its end.
+/// An entry of a directory.
 pub struct Shown {
     name: String,
     id: String,
@@ -68,33 +66,8 @@ impl Shown {
         format!("{mark} {:<19} {:<17} {opening}\n", self.name, self.id)
     }
 
-    /// Its line past the end of a directory.
-    pub fn line_past_end(&self) -> String {
-        let opening = match &self.opening {
-            Opening::Done { blocks, .. } => format!("opens, {}", blocks_text(*blocks)),
-            Opening::Sequence { id, name } => format!("SEQUENCE, the number is now {id} {name}"),
-            Opening::Number => "NUMBER".into(),
-        };
-        let (name, id) = (&self.name, &self.id);
-        format!("- {name:<19} {id:<17} past the end: {opening}\n")
-    }
-
-    /// Its object past the end of a directory.
-    pub fn json_past_end(&self) -> Value {
-        let mut object = self.record_json();
-        object["past_end"] = json!(true);
-        object
-    }
-
     /// Its object.
     pub fn json(&self) -> Value {
-        let mut object = self.record_json();
-        object["stale"] = json!(self.is_stale());
-        object
-    }
-
-    /// What its object has on both sides of the end.
-    fn record_json(&self) -> Value {
         let answer = match self.opening {
             Opening::Done { .. } => done(),
             Opening::Sequence { .. } => json!({"number": 9, "name": "SEQUENCE", "place": 0}),
@@ -104,6 +77,7 @@ impl Shown {
             "name": self.name,
             "id": self.id,
             "answer": answer,
+            "stale": self.is_stale(),
         });
         match &self.opening {
             Opening::Done { blocks, bytes } => {
@@ -117,14 +91,11 @@ impl Shown {
     }
 }
 
-/// A directory as audit names it, with its entries in the order of their records, its end, and the records
-/// past it.
+/// A directory as audit names it, with its entries in the order of their records.
 pub struct Listing {
     pub name: String,
     pub id: String,
     pub entries: Vec<Shown>,
-    pub end: End,
-    pub past_end: Vec<Shown>,
 }
 
 impl Listing {
@@ -151,12 +122,9 @@ impl<'a> Knowledge<'a> {
     fn of(station: &'a Station) -> Knowledge<'a> {
         let listed = station.files.iter().map(|file| &file.entry);
         let stale = station.old_sequences.iter().chain(&station.not_in_use);
-        let entries = listed.chain(stale).chain(&station.past_end);
-        let entries = entries.map(|entry| &entry.name[..]);
+        let entries = listed.chain(stale).map(|entry| &entry.name[..]);
         let directories = station.directories.iter().map(|it| &it.name[..]);
-        let past_end = station.past_master_end.iter().map(|(name, _)| &name[..]);
-        let directories = KNOWN_FILES.into_iter().chain(directories).chain(past_end);
-        let texts = directories.chain(entries);
+        let texts = KNOWN_FILES.into_iter().chain(directories).chain(entries);
         let texts = texts.map(|text| (volumes::directory::name_words(text), text.into()));
         Knowledge {
             station,
@@ -183,10 +151,10 @@ impl<'a> Knowledge<'a> {
         }
     }
 
-    /// Those of some records that are a directory's, by its number, and not empty.
-    fn shown(&self, records: &[Placed], directory: u16) -> Vec<Shown> {
+    /// The entries of a directory, by its number.
+    fn entries(&self, directory: u16) -> Vec<Shown> {
+        let records = self.station.volume.records.iter();
         let mut records: Vec<_> = records
-            .iter()
             .filter(|it| it.directory == directory && it.record.id[0] != 0)
             .collect();
         records.sort_by_key(|it| it.place);
@@ -197,30 +165,26 @@ impl<'a> Knowledge<'a> {
         });
         shown.collect()
     }
-
-    /// The listing of a directory, by its name and ID.
-    fn listing(&self, name: String, id: [u16; 3]) -> Listing {
-        let (volume, number) = (&self.station.volume, id[0]);
-        Listing {
-            name,
-            id: id_text(id),
-            entries: self.shown(&volume.records, number),
-            end: volume.file(number).end().expect("an end"),
-            past_end: self.shown(&volume.past_end, number),
-        }
-    }
 }
 
 /// The listings of all directories of a station's disk, in the order in which an audit walks them.
 pub fn listings(station: &Station) -> Vec<Listing> {
     let knowledge = Knowledge::of(station);
-    let master = knowledge.listing("[0,0]".into(), [4, 4, 0]);
+    let master = Listing {
+        name: "[0,0]".into(),
+        id: "4,4,0".into(),
+        entries: knowledge.entries(4),
+    };
     let walked = master.entries.iter().filter_map(|entry| {
         let mut directories = station.directories.iter();
         directories.find(|it| it.name == entry.name)
     });
     let walked: Vec<Listing> = walked
-        .map(|directory| knowledge.listing(uic_text(directory), directory.id.words()))
+        .map(|directory| Listing {
+            name: uic_text(directory),
+            id: id_text(directory.id.words()),
+            entries: knowledge.entries(directory.id.number),
+        })
         .collect();
     std::iter::once(master).chain(walked).collect()
 }

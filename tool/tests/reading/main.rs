@@ -9,7 +9,6 @@ mod directories;
 mod help;
 mod hub;
 mod listing;
-mod past_end;
 mod paths;
 mod refused;
 mod station;

@@ -43,7 +43,6 @@ fn expect_closed(folder: &Path, answer: &str) {
     for (line, doing) in [
         ("audit v.dsk", "opening 4,4,0"),
         ("ls v.dsk", "opening 4,4,0"),
-        ("ls --past-end v.dsk", "opening 4,4,0"),
         ("cat v.dsk 6,9,0", "opening 6,9,0"),
         ("map v.dsk 1,1,0", "opening 1,1,0"),
         ("extract v.dsk 6,9,0 out", "opening 6,9,0"),
@@ -162,15 +161,13 @@ fn every_flaw_is_judged_as_its_maker_says() {
 }
 
 /// Each reading verb, with what a volume may have or not.
-const LINES: [&str; 16] = [
+const LINES: [&str; 14] = [
     "judge v.dsk",
     "audit v.dsk",
     "audit --stale v.dsk",
     "ls v.dsk",
     "ls v.dsk [1,1]",
     "ls v.dsk 1,1,0",
-    "ls --past-end v.dsk",
-    "ls --past-end v.dsk 1,1,0",
     "map v.dsk 1,1,0",
     "map v.dsk 6,9,0",
     "cat v.dsk 4,4,0",

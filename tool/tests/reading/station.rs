@@ -1,5 +1,4 @@
-//! The reading verbs on a station's RL02 disk: 50 directories, 2,000 files, 21 entries left behind, and 40
-//! records past the ends of directories.
+//! The reading verbs on a station's RL02 disk: 50 directories, 2,000 files, and 21 entries left behind.
 
 use std::collections::BTreeMap;
 use std::fs;
@@ -133,10 +132,7 @@ fn ls_lists_each_directory() {
     let scratch = folder();
     let listings = listings(station());
     assert_eq!(listings.len(), 51);
-    for Listing {
-        name, id, entries, ..
-    } in listings
-    {
+    for Listing { name, id, entries } in listings {
         let lines: String = entries.iter().map(Shown::line).collect();
         let last = format!("{} records in the directory {id}\n", entries.len());
         let line = format!("ls v.dsk {name}");
@@ -149,72 +145,6 @@ fn ls_lists_each_directory() {
             "{line}"
         );
     }
-}
-
-/// What ls says after the records past a directory's end.
-fn told_past_end(listing: &Listing) -> String {
-    let (count, worth) = match listing.past_end.len() {
-        0 => (String::from("no records"), ""),
-        1 => (
-            String::from("1 record"),
-            ": no look-up finds it, the station has given it up",
-        ),
-        count => (
-            format!("{count} records"),
-            ": no look-up finds them, the station has given them up",
-        ),
-    };
-    let end = format!("VBN {}, byte {}", listing.end.block, listing.end.first_free);
-    let id = &listing.id;
-    format!("{count} past the end of the directory {id} ({end}){worth}\n")
-}
-
-#[test]
-fn ls_shows_what_stands_past_each_end() {
-    let scratch = folder();
-    let listings = listings(station());
-    for listing in &listings {
-        let name = &listing.name;
-        let (plain, line) = (
-            format!("ls v.dsk {name}"),
-            format!("ls --past-end v.dsk {name}"),
-        );
-        let past_end = listing.past_end.iter();
-        let lines: String = past_end.clone().map(Shown::line_past_end).collect();
-        let expected = text(scratch.folder(), &plain) + &lines + &told_past_end(listing);
-        assert_eq!(text(scratch.folder(), &line), expected, "{line}");
-        let mut expected = members(scratch.folder(), &plain);
-        expected["end"] = json!({"vbn": listing.end.block, "byte": listing.end.first_free});
-        expected["past_end"] = past_end.map(Shown::json_past_end).collect();
-        assert_eq!(members(scratch.folder(), &line), expected, "{line}");
-    }
-    let counts = listings.iter().map(|listing| listing.past_end.len());
-    assert_eq!(counts.clone().sum::<usize>(), 40);
-    assert!(counts.clone().any(|count| count == 0) && counts.clone().any(|count| count > 1));
-}
-
-/// A name past an end is found only where the directory has it below its end too, and then as it is there.
-#[test]
-fn no_path_leads_past_an_end() {
-    let scratch = folder();
-    let (mut found, mut absent) = (0, 0);
-    for entry in &station().past_end {
-        let path = path(entry);
-        let line = format!("cat v.dsk {path}");
-        let mut files = station().files.iter();
-        let is_named =
-            |it: &&Listed| it.entry.directory == entry.directory && it.entry.name == entry.name;
-        if let Some(file) = files.find(is_named) {
-            assert!(bytes(scratch.folder(), &line) == file.content, "{path}");
-            found += 1;
-            continue;
-        }
-        let directory = id_text(station().directories[entry.directory].id.words());
-        let doing = format!("looking up {} in the directory {directory}", entry.name);
-        expect_refused(scratch.folder(), &line, &doing, "answer 15 ABSENT place 0");
-        absent += 1;
-    }
-    assert!(found > 5 && absent > 5, "{found} and {absent}");
 }
 
 #[test]

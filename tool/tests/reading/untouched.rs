@@ -12,13 +12,12 @@ use crate::asked::bytes;
 use crate::common::{contents, folder_with, run, Scratch, VOLUME_V};
 
 /// Each reading verb; extract writes to OUT.
-const LINES: [&str; 13] = [
+const LINES: [&str; 12] = [
     "judge v.dsk",
     "audit v.dsk",
     "audit --stale v.dsk",
     "ls v.dsk",
     "ls v.dsk 4,4,0",
-    "ls --past-end v.dsk",
     "map v.dsk 1,1,0",
     "cat v.dsk 4,4,0",
     "cat --blocks v.dsk 4,4,0",

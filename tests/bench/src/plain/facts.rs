@@ -1,6 +1,6 @@
 //! What a volume, a header and a file say of themselves, and blocks in a row, in plain Rust.
 
-use super::{block, long, put, word, Answer, Header, Places, Pointers, Refusal, Volume};
+use super::{block, put, word, Answer, Header, Places, Pointers, Refusal, Volume};
 use super::{ABSENT, BLOCK, HEADER, NO_PLACES, NUMBER, VBN};
 
 /// Writes an answer of two values, or a refusal.
@@ -9,6 +9,11 @@ fn put_two(answer: &mut Answer, result: Result<(u32, u32), Refusal>) {
         Ok((first, second)) => put(answer, Ok(&[first.into(), second.into()])),
         Err(number) => put(answer, Err(number)),
     }
+}
+
+/// Two words as one number, the high word first.
+fn long(bytes: &[u8], at: usize) -> u32 {
+    u32::from(word(bytes, at)) << 16 | u32::from(word(bytes, at + 2))
 }
 
 /// As `ods1_geometry`.
@@ -119,17 +124,22 @@ impl Header<'_> {
     fn attributes(&self, blocks: u32) -> [u64; 10] {
         let block = self.block;
         let all = BLOCK as u64 * u64::from(blocks);
+        let (f_efbk, f_ffby) = (long(block, 22), word(block, 26));
+        let end = match f_efbk {
+            0 => all,
+            _ => all.min(BLOCK as u64 * u64::from(f_efbk - 1) + u64::from(f_ffby)),
+        };
         [
             blocks.into(),
-            self.end().map_or(all, |end| end.min(all)),
+            end,
             word(block, 8).into(),
             word(block, 10).into(),
             word(block, 12).into(),
             word(block, 14).into(),
             word(block, 16).into(),
             long(block, 18).into(),
-            long(block, 22).into(),
-            word(block, 26).into(),
+            f_efbk.into(),
+            f_ffby.into(),
         ]
     }
 }

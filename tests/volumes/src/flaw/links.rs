@@ -288,10 +288,8 @@ fn times() -> Vec<Flaw> {
         flaw(
             "file 4 links to the second header of another",
             |volume, chain| {
-                let before = volume.header(4).link.0;
                 link_to(volume, 4, &chain[1]);
-                let both = [chain[1].number, before].into_iter();
-                Some(both.filter(|&n| n > 0).collect())
+                Some(vec![chain[1].number])
             },
         ),
         flaw(
@@ -385,9 +383,6 @@ fn good() -> Vec<Flaw> {
             Some(vec![])
         }),
         flaw("file 4 has the rest of a chain", |volume, chain| {
-            if volume.file(4).headers.len() > 1 {
-                return None;
-            }
             link(volume, chain[0].number, 0, 0);
             link_to(volume, 4, &chain[1]);
             Some(vec![])
