@@ -4,7 +4,7 @@ ghost use Rattle.std.specs.Prelude.{◌≡◌};
 ghost use Rattle.answer.specs.Refusal.{number_of, place_of, value_of};
 
 // Why a call is refused: a variant for each refusal of the table, in its order.
-#[derive(Drop)]
+#[derive(Clone, Copy)]
 pub enum Refusal {
     Size,
     Home,
@@ -43,7 +43,7 @@ pub enum Refusal {
 }
 
 // A refusal's number, place and value, in this order.
-#[derive(Drop)]
+#[derive(Clone, Copy)]
 struct Row(u8, u32, u32);
 
 // The table of answer numbers: the row of each refusal.

@@ -1,19 +1,19 @@
 // The counts that ODS-1 keeps apart, as types of their own, and the ID and the name of a file as words.
 
 // A virtual block number: a place in a file, from 1.
-#[derive(Drop)]
+#[derive(Clone, Copy)]
 pub struct Vbn(pub u32);
 
 // A logical block number: a place on the volume, from 0.
-#[derive(Drop)]
+#[derive(Clone, Copy)]
 pub struct Lbn(pub u32);
 
 // A file number, from 1.
-#[derive(Drop)]
+#[derive(Clone, Copy)]
 pub struct FileNumber(pub u32);
 
 // A file ID as its three words.
-#[derive(Drop)]
+#[derive(Clone, Copy)]
 pub struct FileId {
     pub number: u16,
     pub sequence: u16,
@@ -22,7 +22,7 @@ pub struct FileId {
 }
 
 // A name as its five words: name, type and version.
-#[derive(Drop)]
+#[derive(Clone, Copy)]
 pub struct Name {
     pub name1: u16,
     pub name2: u16,

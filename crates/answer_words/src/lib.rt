@@ -1,4 +1,7 @@
 // The answer words of the shapes that several calls share: each answer as the twelve words that an exported call writes.
+
+#![tactic(auto)]
+
 ghost use Rattle.std.specs.Prelude.{◌≡◌};
 ghost use Rattle.answer_words.specs.Words.{lbn_words, id_words, run_words, count_words, bare_words};
 

@@ -1,4 +1,7 @@
 // BADHOME: the home positions below the home, and the blocks of file 3.
+
+#![tactic(auto)]
+
 ghost use Rattle.std.specs.Prelude.{◌≡◌, ◌*◌, ◌≤◌, length};
 ghost use Rattle.answer.specs.declared.outcome.Outcome.TheVariants.{Passed};
 ghost use Rattle.lists.specs.First.{first};

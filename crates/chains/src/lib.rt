@@ -1,4 +1,7 @@
 // The chain of a file's headers: its links, its blocks, and its members.
+
+#![tactic(auto)]
+
 ghost use Rattle.std.specs.Prelude.{◌≡◌, true, ◌<◌, length, get_or};
 ghost use Rattle.answer.specs.declared.outcome.Outcome.TheVariants as outcome;
 ghost use Rattle.header.specs.Fields.{m_efnu};
@@ -54,7 +57,7 @@ pub fn members_of(image: &[u8], v: Volume, places: &Places, n: FileNumber, lbn: 
 }
 
 // What finding a header comes to.
-#[derive(Drop)]
+#[derive(Clone, Copy)]
 pub struct Finding {
     pub outcome: Outcome,
     // The LBN of the header; it says nothing where the outcome is a refusal.
@@ -62,7 +65,7 @@ pub struct Finding {
 }
 
 // Where the link of a header leads.
-#[derive(Drop)]
+#[derive(Clone, Copy)]
 pub enum Link {
     // Nowhere: the header is the last of its chain.
     End,
@@ -72,7 +75,7 @@ pub enum Link {
 }
 
 // What a chain comes to.
-#[derive(Drop)]
+#[derive(Clone, Copy)]
 pub enum Chain {
     // Each link is good; how many blocks its headers cover.
     Good(u32),

@@ -1,4 +1,7 @@
 // TWICE, BADHOME and MAP: what the verdict asks of the blocks that headers in use cover.
+
+#![tactic(auto)]
+
 ghost use Rattle.std.specs.Prelude.{◌≡◌, cond, [], ◌≤◌, length};
 ghost use Rattle.answer.specs.declared.outcome.Outcome.TheVariants.{Passed};
 ghost use Rattle.pointers.specs.Pointers.{Fits, blocks_of};

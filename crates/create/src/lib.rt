@@ -1,4 +1,7 @@
 // Create: the header of a new file and its index bit, under the lowest spare number.
+
+#![tactic(auto)]
+
 ghost use Rattle.std.specs.Prelude.{◌≡◌, ◌+◌, ◌*◌, ◌≤◌, length};
 ghost use Rattle.image.specs.Stores.{put_block};
 ghost use Rattle.answer.specs.Answers.{id_answer};

@@ -1,4 +1,7 @@
 // Delete: the headers of a file's chain given up, and the blocks that they cover made free.
+
+#![tactic(auto)]
+
 ghost use Rattle.std.specs.Prelude.{◌≡◌, true, ◌≤◌, length};
 ghost use Rattle.answer.specs.Answers.{bare_answer};
 ghost use Rattle.volume.specs.Volume.{slot};

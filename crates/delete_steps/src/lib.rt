@@ -1,4 +1,7 @@
 // The three steps of delete, over the numbers and the slots of a chain that were gathered before.
+
+#![tactic(auto)]
+
 ghost use Rattle.std.specs.Prelude.{◌≡◌, ◌+◌, ◌*◌, ◌≤◌, length, take};
 ghost use Rattle.image.specs.Blocks.{block};
 ghost use Rattle.pointers.specs.Pointers.{run, blocks_of};

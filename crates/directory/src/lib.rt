@@ -1,4 +1,7 @@
 // The search through the records of a directory.
+
+#![tactic(auto)]
+
 ghost use Rattle.std.specs.Prelude.{◌≡◌, ◌+◌, ◌*◌, ◌≤◌, ◌<◌, length};
 ghost use Rattle.lists.specs.Lists.{numbers_from};
 ghost use Rattle.pointers.specs.Pointers.{Fits, blocks_of};

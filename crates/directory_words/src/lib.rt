@@ -1,4 +1,7 @@
 // The answer words of the calls on a directory.
+
+#![tactic(auto)]
+
 ghost use Rattle.std.specs.Prelude.{◌≡◌};
 ghost use Rattle.directory_words.specs.Words.{next_record_words};
 

@@ -1,4 +1,7 @@
 // Extend: the tests of a volume that is judged, and the stores where they are passed.
+
+#![tactic(auto)]
+
 ghost use Rattle.std.specs.Prelude.{◌≡◌, length};
 ghost use Rattle.answer.specs.Answers.{lbn_answer};
 ghost use Rattle.volume.specs.Opening.{Recorded};

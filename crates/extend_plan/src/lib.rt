@@ -1,4 +1,7 @@
 // What extend asks of a volume that is judged, and where the pointer and the blocks go.
+
+#![tactic(auto)]
+
 ghost use Rattle.std.specs.Prelude.{◌≡◌, true, not, ◌≤◌};
 ghost use Rattle.image.specs.Blocks.{block};
 ghost use Rattle.answer.specs.declared.refusal.Refusal.TheVariants as refusal;
@@ -22,7 +25,7 @@ use open_file::open_on;
 use volume::{Places, Volume, map_blocks};
 
 // What the tests come to.
-#[derive(Drop)]
+#[derive(Clone, Copy)]
 pub enum Plan {
     // Passed: the LBN of the file's last header, and the first of the new blocks.
     To(Lbn, Lbn),

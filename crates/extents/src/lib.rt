@@ -1,4 +1,7 @@
 // Extents of a file: from a VBN on, the blocks that lie one after the other on the volume.
+
+#![tactic(auto)]
+
 ghost use Rattle.std.specs.Prelude.{◌≡◌};
 ghost use Rattle.extents.specs.Extents.{extent_answer};
 ghost use Rattle.extents.specs.Claims.{ExtentsMap};

@@ -1,4 +1,7 @@
 // What an opened file says of itself: owner, protection, flags, and the attributes that FCS keeps.
+
+#![tactic(auto)]
+
 ghost use Rattle.std.specs.Prelude.{◌≡◌, length};
 ghost use Rattle.file_facts.specs.Files.{attributes_of, attributes_answer};
 

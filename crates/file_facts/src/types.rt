@@ -3,7 +3,7 @@ use answer::refusal::Refusal;
 use answer::types::Vbn;
 
 // What an opened file says of itself.
-#[derive(Drop)]
+#[derive(Clone, Copy)]
 pub struct Attributes {
     // How many blocks it has.
     pub blocks: u32,
@@ -28,7 +28,7 @@ pub struct Attributes {
 }
 
 // The answer of asking what a file says.
-#[derive(Drop)]
+#[derive(Clone, Copy)]
 pub enum AttributesAnswer {
     Done(Attributes),
     Refused(Refusal),

@@ -1,4 +1,7 @@
 // The answer words of the calls that read a file.
+
+#![tactic(auto)]
+
 ghost use Rattle.std.specs.Prelude.{◌≡◌};
 ghost use Rattle.file_words.specs.Words.{block_words, attributes_words};
 

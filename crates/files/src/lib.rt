@@ -1,4 +1,7 @@
 // FILES: the lowest file number that offends, and the unmet test of its header.
+
+#![tactic(auto)]
+
 ghost use Rattle.std.specs.Prelude.{◌≡◌, true, cond, ◌≤◌};
 ghost use Rattle.image.specs.Blocks.{block};
 ghost use Rattle.answer.specs.declared.outcome.Outcome.TheVariants.{Passed};
@@ -20,7 +23,7 @@ use volume::{Places, Slot, Volume};
 use whole::fault;
 
 // What the search for the lowest offender finds.
-#[derive(Drop)]
+#[derive(Clone, Copy)]
 struct Search {
     // The offender; H.FMAX + 1 where there is none.
     place: FileNumber,
@@ -29,7 +32,7 @@ struct Search {
 }
 
 // FILES; and, where it is passed, whether each header in use is the only one of its file.
-#[derive(Drop)]
+#[derive(Clone, Copy)]
 pub struct FilesJudged {
     pub outcome: Outcome,
     pub single: bool,

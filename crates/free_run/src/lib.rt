@@ -1,4 +1,7 @@
 // Runs of free blocks of a volume, one after the other, by its storage map.
+
+#![tactic(auto)]
+
 ghost use Rattle.std.specs.Prelude.{◌≡◌, ◌*◌, ◌^◌, ◌≤◌, ◌<◌, length};
 ghost use Rattle.volume.specs.Opening.{Open};
 ghost use Rattle.free_run.specs.Free.{next_bit, free_run_answer};

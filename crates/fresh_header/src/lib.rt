@@ -1,4 +1,7 @@
 // The header of a new file.
+
+#![tactic(auto)]
+
 ghost use Rattle.std.specs.Prelude.{◌≡◌, length, set};
 ghost use Rattle.fresh_header.specs.Fresh.{sealed, identified, named, mapped, fresh_header};
 

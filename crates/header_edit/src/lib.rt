@@ -1,4 +1,7 @@
 // A header that a call changes: one retrieval pointer more, or its slot cleared.
+
+#![tactic(auto)]
+
 ghost use Rattle.std.specs.Prelude.{◌≡◌, length, ◌+◌, ◌≤◌, ◌<◌, ◌^◌};
 ghost use Rattle.header.specs.Fields.{h_mpof, map_area, m_use, m_max};
 ghost use Rattle.header_edit.specs.Cleared.{cleared_slot};

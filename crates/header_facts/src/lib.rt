@@ -1,4 +1,7 @@
 // What the header of a file number in use says: its place in a chain, its name, its retrieval pointers.
+
+#![tactic(auto)]
+
 ghost use Rattle.std.specs.Prelude.{◌≡◌, ◌≤◌, length};
 ghost use Rattle.header.specs.Fields.{h_idof};
 ghost use Rattle.volume.specs.Opening.{Recorded};

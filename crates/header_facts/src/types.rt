@@ -3,7 +3,7 @@ use answer::refusal::Refusal;
 use answer::types::Name;
 
 // What a header says.
-#[derive(Drop)]
+#[derive(Clone, Copy)]
 pub struct Header {
     // H.FSEQ.
     pub sequence: u16,
@@ -20,7 +20,7 @@ pub struct Header {
 }
 
 // The answer of asking what a header says.
-#[derive(Drop)]
+#[derive(Clone, Copy)]
 pub enum HeaderAnswer {
     Done(Header),
     Refused(Refusal),

@@ -1,4 +1,7 @@
 // The answer words of the calls on the header of a file number.
+
+#![tactic(auto)]
+
 ghost use Rattle.std.specs.Prelude.{◌≡◌};
 ghost use Rattle.header_words.specs.Words.{header_words};
 

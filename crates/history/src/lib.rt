@@ -1,5 +1,8 @@
 // Lists of create, extend and delete calls: what every list of them keeps. Each claim is a statement about the definitions, as a function that asks
 // nothing.
+
+#![tactic(auto)]
+
 ghost use Rattle.history.specs.Claims.{Demand3};
 ghost use Rattle.history.specs.Writing.{RefusedKeeps, WritesBounded, VolumeSteady};
 ghost use Rattle.history.specs.ReadBack.{CallsReadBack};

@@ -1,4 +1,7 @@
 // The home block: its fields, what makes a block one, and the search for it.
+
+#![tactic(auto)]
+
 ghost use Rattle.std.specs.Prelude.{◌≡◌, ◌+◌, ◌*◌, ◌^◌, ◌≤◌, ◌<◌, not, ◌&&◌, ◌||◌, eqb, length};
 ghost use Rattle.lists.specs.First.{below};
 ghost use Rattle.home.specs.Home.{h_ibsz, h_iblb, h_fmax, h_sbcl, h_vlev, indf_at, is_home, position, home_index};

@@ -1,5 +1,8 @@
 // The index file as opening finds it: header 1, the blocks that it must map, and the headers that follow it, each found in the part that those before
 // it map.
+
+#![tactic(auto)]
+
 ghost use Rattle.std.specs.Prelude.{◌≡◌, true, ◌&&◌, ◌+◌, ◌<◌, ◌^◌, eqb, length};
 ghost use Rattle.lists.specs.First.{below};
 ghost use Rattle.image.specs.Stores.{zeros};

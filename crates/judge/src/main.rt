@@ -1,4 +1,7 @@
 // The judging program: reads an image of at most 65,536 bytes from standard input and prints the verdict on it.
+
+#![tactic(auto)]
+
 use answer::refusal::{Refusal, number_of, place_of};
 use libc::{STDIN_FILENO, STDOUT_FILENO};
 use verdict::{JudgeAnswer, judge};

@@ -1,5 +1,8 @@
 // LINKS: how often each header in use is linked, kept as marks, and the lowest file number that offends. FILES has passed before, so that each
 // header in use has a slot and is whole.
+
+#![tactic(auto)]
+
 ghost use Rattle.std.specs.Prelude.{◌≡◌, true, cond, [], ◌≤◌, length};
 ghost use Rattle.image.specs.Blocks.{block};
 ghost use Rattle.answer.specs.declared.outcome.Outcome.TheVariants as outcome;

@@ -1,4 +1,7 @@
 // The two calls on a directory: look-up by name, and the next record.
+
+#![tactic(auto)]
+
 ghost use Rattle.std.specs.Prelude.{◌≡◌};
 ghost use Rattle.answer.specs.declared.outcome.Outcome.TheVariants.{Passed};
 ghost use Rattle.volume.specs.Volume.{slot, volume_of, places_of};
@@ -73,7 +76,7 @@ pub fn look_up(image: &[u8], id: FileId, name: Name) -> IdAnswer
 }
 
 // The answer of a step.
-#[derive(Drop)]
+#[derive(Clone, Copy)]
 pub enum NextRecordAnswer {
     // The record, and the place to go on from.
     Done(Entry, u32),

@@ -1,11 +1,14 @@
 // The lowest run of free blocks of a storage map.
+
+#![tactic(auto)]
+
 ghost use Rattle.std.specs.Prelude.{◌≡◌, ◌*◌, ◌^◌, ◌≤◌, ◌<◌, length};
 ghost use Rattle.lowest_run.specs.Runs.{start_of};
 
 use answer::types::Lbn;
 
 // Where a run of free blocks begins.
-#[derive(Drop)]
+#[derive(Clone, Copy)]
 pub enum Start {
     At(Lbn),
     Missing,

@@ -1,4 +1,7 @@
 // A map held against the marks of a work area.
+
+#![tactic(auto)]
+
 ghost use Rattle.std.specs.Prelude.{◌≡◌, ◌+◌, ◌*◌, ◌-◌, ◌^◌, ◌≤◌, ◌<◌, eqb, length};
 ghost use Rattle.lists.specs.First.{first};
 ghost use Rattle.lists.specs.Counts.{one_if};

@@ -1,4 +1,7 @@
 // A file's VBNs.
+
+#![tactic(auto)]
+
 ghost use Rattle.std.specs.Prelude.{◌≡◌};
 ghost use Rattle.mapping.specs.Mapping.{map_answer, block_of};
 

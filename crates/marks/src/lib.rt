@@ -1,4 +1,7 @@
 // The marks of a work area: counts that are capped at 2, a byte each. Nothing here knows of volumes.
+
+#![tactic(auto)]
+
 ghost use Rattle.std.specs.Prelude.{◌≡◌, ℕ, ◌+◌, ◌^◌, ◌≤◌, ◌<◌, min, length};
 ghost use Rattle.lists.specs.First.{first};
 ghost use Rattle.lists.specs.Lists.{numbers_from};

@@ -1,4 +1,7 @@
 // Proper names.
+
+#![tactic(auto)]
+
 ghost use Rattle.std.specs.Prelude.{◌≡◌, cond, ◌&&◌, leb, length};
 ghost use Rattle.names.specs.Names.{blank, filled, kept, name_codes, proper};
 

@@ -1,4 +1,7 @@
 // Opening a file by its ID.
+
+#![tactic(auto)]
+
 ghost use Rattle.std.specs.Prelude.{◌≡◌, not};
 ghost use Rattle.image.specs.Stores.{zeros};
 ghost use Rattle.answer.specs.declared.refusal.Refusal.TheVariants as refusal;
@@ -22,7 +25,7 @@ use image::blocks::block;
 use volume::{Places, Volume};
 
 // What opening a file on an opened volume comes to.
-#[derive(Drop)]
+#[derive(Clone, Copy)]
 pub struct OpenedOn {
     pub outcome: Outcome,
     // The LBN of its first header; it says nothing where the outcome is a refusal.
@@ -32,7 +35,7 @@ pub struct OpenedOn {
 }
 
 // What opening a file comes to, for the calls that go on from there.
-#[derive(Drop)]
+#[derive(Clone, Copy)]
 pub struct OpenFile {
     pub outcome: Outcome,
     // The volume; it says nothing where the outcome is a refusal.

@@ -1,4 +1,7 @@
 // Opening a volume: SIZE, HOME, GEOMETRY, INDEX, STORAGE, in this order.
+
+#![tactic(auto)]
+
 ghost use Rattle.std.specs.Prelude.{◌≡◌, ◌+◌, ◌≤◌, ◌<◌, ◌^◌, true, ◌&&◌, eqb, leb, length, get_or};
 ghost use Rattle.image.specs.Words.{byte_at};
 ghost use Rattle.image.specs.Blocks.{block};
@@ -24,7 +27,7 @@ use pointers::{block_count, first_pointer, lbn_in, pointer_count, pointer_number
 use volume::{Places, Volume, map_blocks};
 
 // Passed, and what calls on the volume need to know; or refused.
-#[derive(Drop)]
+#[derive(Clone, Copy)]
 pub struct OpenVolume {
     pub outcome: Outcome,
     pub volume: Volume,

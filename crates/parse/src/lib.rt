@@ -1,4 +1,7 @@
 // The name of a text.
+
+#![tactic(auto)]
+
 ghost use Rattle.std.specs.Prelude.{◌≡◌, cond, ◌≤◌, ◌<◌, length};
 ghost use Rattle.parse.specs.Parse.{span, Part, code_at, part_word, value_to, digits_to, with_version, with_type, text_to_name_answer};
 
@@ -9,7 +12,7 @@ use image::words::byte_or_zero;
 use radix50::{code_of, is_name_char};
 
 // The words of a text, or the refusal.
-#[derive(Drop)]
+#[derive(Clone, Copy)]
 pub enum TextToNameAnswer {
     Done(Name),
     Refused(Refusal),

@@ -1,4 +1,7 @@
 // The retrieval pointers of a header, walked in order, and the blocks that they cover.
+
+#![tactic(auto)]
+
 ghost use Rattle.std.specs.Prelude.{◌≡◌, ◌+◌, ◌≤◌, ◌<◌, ◌^◌, length, get_or};
 ghost use Rattle.pointers.specs.Pointers.{pointer_lbn, pointer_count, pointers_at, pointers, Fits, blocks_of, SpotOf, place_in};
 
@@ -8,7 +11,7 @@ use image::numbers::wide;
 use image::words::word_at;
 
 // Where a place, from 0, lies in the blocks of a header.
-#[derive(Drop)]
+#[derive(Clone, Copy)]
 pub enum Place {
     // At this block.
     At(Lbn),
@@ -17,7 +20,7 @@ pub enum Place {
 }
 
 // Where a place, from 0, lies among the pointers of a header.
-#[derive(Drop)]
+#[derive(Clone, Copy)]
 pub enum Spot {
     // At this block. So many blocks of its pointer are left, it among them, and the pointer is this one, from 0.
     In(Lbn, u32, usize),

@@ -1,4 +1,7 @@
 // Radix-50: the characters, and words of three characters.
+
+#![tactic(auto)]
+
 mod table;
 mod words;
 

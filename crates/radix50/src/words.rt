@@ -6,7 +6,7 @@ use crate::table::char_of;
 use answer::refusal::Refusal;
 
 // The three characters of a word, or the refusal.
-#[derive(Drop)]
+#[derive(Clone, Copy)]
 pub enum Characters {
     Done(u8, u8, u8),
     Refused(Refusal),

@@ -1,4 +1,7 @@
 // The search for a record, in blocks that lie one behind the other.
+
+#![tactic(auto)]
+
 ghost use Rattle.std.specs.Prelude.{◌≡◌, ◌+◌, ◌*◌, ◌-◌, ◌≤◌, length};
 ghost use Rattle.lists.specs.First.{first};
 ghost use Rattle.records.specs.Records.{wanted_in};

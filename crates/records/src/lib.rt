@@ -1,4 +1,7 @@
 // The records of a directory, in blocks that lie one behind the other.
+
+#![tactic(auto)]
+
 ghost use Rattle.std.specs.Prelude.{◌≡◌, ◌+◌, ◌*◌, ◌≤◌, length};
 ghost use Rattle.records.specs.Records.{record_in, entry_of};
 
@@ -6,14 +9,14 @@ use answer::types::{FileId, Name};
 use image::words::word_at;
 
 // What a record has: an ID and a name.
-#[derive(Drop)]
+#[derive(Clone, Copy)]
 pub struct Entry {
     pub id: FileId,
     pub name: Name,
 }
 
 // What is searched for among the records that are not empty.
-#[derive(Drop)]
+#[derive(Clone, Copy)]
 pub enum Wanted {
     // Any of them.
     Any,

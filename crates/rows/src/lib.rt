@@ -1,4 +1,7 @@
 // Rows of blocks: found by one walk over a file's retrieval pointers, in order.
+
+#![tactic(auto)]
+
 ghost use Rattle.std.specs.Prelude.{◌≡◌, true, ◌<◌, ◌≤◌, ◌^◌};
 ghost use Rattle.pointers.specs.Pointers.{Fits};
 ghost use Rattle.volume.specs.Volume.{slot};
@@ -14,7 +17,7 @@ use pointers::{first_pointer, pointer_count, pointer_lbn, pointer_number};
 use volume::{Places, Volume};
 
 // What the pointers walked so far tell of the row from a place on.
-#[derive(Drop)]
+#[derive(Clone, Copy)]
 pub enum Row {
     // The place lies so many blocks past them.
     Ahead(u32),

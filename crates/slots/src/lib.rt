@@ -1,5 +1,8 @@
 // The slots of file numbers, walked in order: a run of slots at a time. A walk keeps the header and the retrieval pointer of the index file that it
 // stands in, so a pass over all numbers goes over the pointers once.
+
+#![tactic(auto)]
+
 ghost use Rattle.std.specs.Prelude.{◌≡◌, ◌+◌, ◌-◌, ◌≤◌, ◌<◌, ◌^◌, length};
 ghost use Rattle.pointers.specs.Pointers.{pointers_at, pointers, runs, Fits, blocks_of};
 ghost use Rattle.volume.specs.Opening.{Open, Recorded};
@@ -11,7 +14,7 @@ use pointers::{Spot, first_pointer, pointer_count, pointer_lbn, pointer_number, 
 use volume::{Places, Volume, slot_vbn};
 
 // Slots that lie in a row: what is left of a retrieval pointer of the index file.
-#[derive(Drop)]
+#[derive(Clone, Copy)]
 pub struct SlotRun {
     // Where the first of them lies.
     pub lbn: Lbn,

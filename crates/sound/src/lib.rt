@@ -1,4 +1,7 @@
 // What sound means, and what holds of every image by that: statements about the definitions, each as a function that asks nothing.
+
+#![tactic(auto)]
+
 ghost use Rattle.sound.specs.Claims.{VerdictExact, CountsAdd, BlocksApart};
 
 // The verdict, with work areas that are long enough, answers DONE exactly where the image opens and is sound.

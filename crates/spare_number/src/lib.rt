@@ -1,4 +1,7 @@
 // The lowest spare file number.
+
+#![tactic(auto)]
+
 ghost use Rattle.std.specs.Prelude.{◌≡◌};
 ghost use Rattle.volume.specs.Volume.{in_use};
 ghost use Rattle.volume.specs.Opening.{Recorded};

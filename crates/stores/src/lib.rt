@@ -1,4 +1,7 @@
 // Stores: words, zeros, the bits of a map, and of a map that lies in blocks of an image.
+
+#![tactic(auto)]
+
 ghost use Rattle.std.specs.Prelude.{◌≡◌, ◌+◌, ◌/◌, ◌^◌, ◌≤◌, ◌<◌, ◌*◌, length, [], ◌∷◌};
 ghost use Rattle.lists.specs.Lists.{numbers_from};
 ghost use Rattle.image.specs.Stores.{with_bit, put_bit, put_bits, put_word, zeros, put_map_bits};

@@ -1,4 +1,7 @@
 // A name as text.
+
+#![tactic(auto)]
+
 ghost use Rattle.std.specs.Prelude.{◌≡◌, true, ◌+◌, ◌≤◌, ◌<◌, length};
 ghost use Rattle.image.specs.Stores.{splice};
 ghost use Rattle.names.specs.Names.{filled, kept};

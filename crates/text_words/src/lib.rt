@@ -1,4 +1,7 @@
 // The answer words of the call that turns text into a name: its answer as the twelve words that an exported call writes.
+
+#![tactic(auto)]
+
 ghost use Rattle.std.specs.Prelude.{◌≡◌};
 ghost use Rattle.text_words.specs.Words.{text_to_name_words};
 

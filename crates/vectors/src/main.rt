@@ -1,4 +1,7 @@
 // Runs the worked examples of 01 that are not marked P, and those of extend that are, and prints each answer. Volume V is read from standard input.
+
+#![tactic(auto)]
+
 use libc::{STDIN_FILENO, STDOUT_FILENO};
 use ods1::changes::{ods1_create, ods1_delete, ods1_extend};
 use ods1::directories::{ods1_look_up, ods1_next_record};

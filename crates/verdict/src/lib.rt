@@ -1,4 +1,7 @@
 // The verdict, in its order, and its counts.
+
+#![tactic(auto)]
+
 ghost use Rattle.std.specs.Prelude.{◌≡◌, ◌&&◌, ◌≤◌, leb, length};
 ghost use Rattle.image.specs.Stores.{zeros};
 ghost use Rattle.answer.specs.declared.outcome.Outcome.TheVariants.{Passed};
@@ -26,7 +29,7 @@ use open_volume::open;
 use volume::{Places, Volume, map_blocks};
 
 // The verdict's four counts.
-#[derive(Drop)]
+#[derive(Clone, Copy)]
 pub struct Counts {
     // N, the number of blocks.
     pub blocks: u32,
@@ -39,14 +42,14 @@ pub struct Counts {
 }
 
 // The answer of the verdict.
-#[derive(Drop)]
+#[derive(Clone, Copy)]
 pub enum JudgeAnswer {
     Done(Counts),
     Refused(Refusal),
 }
 
 // What calls go on from once a volume is judged: the outcome, and where that is passed the volume.
-#[derive(Drop)]
+#[derive(Clone, Copy)]
 pub struct JudgedVolume {
     pub outcome: Outcome,
     pub volume: Volume,

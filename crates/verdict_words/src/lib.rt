@@ -1,4 +1,7 @@
 // The answer words of the verdict: its answer as the twelve words that an exported call writes.
+
+#![tactic(auto)]
+
 ghost use Rattle.std.specs.Prelude.{◌≡◌};
 ghost use Rattle.verdict_words.specs.Words.{judge_words};
 

@@ -1,4 +1,7 @@
 // An opened volume: its record, the blocks of its index file, the slots of file headers, and which file numbers are in use.
+
+#![tactic(auto)]
+
 ghost use Rattle.std.specs.Prelude.{◌≡◌, ◌+◌, ◌-◌, ◌≤◌, ◌<◌, ◌^◌, length, take, true};
 ghost use Rattle.header.specs.Fields.{m_efnu};
 ghost use Rattle.image.specs.Blocks.{block};
@@ -84,7 +87,7 @@ pub fn index_blocks(image: &[u8], v: Volume, places: &Places) -> u32
 pub type Places = [u32; 256];
 
 // The part of the volume record that goes by value: what calls on an opened volume need to know of it.
-#[derive(Drop)]
+#[derive(Clone, Copy)]
 pub struct Volume {
     // N, the number of blocks.
     pub blocks: u32,
@@ -103,7 +106,7 @@ pub struct Volume {
 }
 
 // Where the header of a file number lies.
-#[derive(Drop)]
+#[derive(Clone, Copy)]
 pub enum Slot {
     At(Lbn),
     Missing,

@@ -1,4 +1,7 @@
 // What a volume says of itself: where its parts lie, and its label.
+
+#![tactic(auto)]
+
 ghost use Rattle.std.specs.Prelude.{◌≡◌, length};
 ghost use Rattle.volume.specs.Opening.{Recorded};
 ghost use Rattle.volume_facts.specs.Volumes.{geometry_of, geometry_answer, label_in, label_answer};

@@ -3,7 +3,7 @@ use answer::refusal::Refusal;
 use answer::types::Lbn;
 
 // Where the parts of a volume lie.
-#[derive(Drop)]
+#[derive(Clone, Copy)]
 pub struct Geometry {
     // N, the number of blocks.
     pub blocks: u32,
@@ -28,14 +28,14 @@ pub struct Geometry {
 }
 
 // The answer of asking where the parts of a volume lie.
-#[derive(Drop)]
+#[derive(Clone, Copy)]
 pub enum GeometryAnswer {
     Done(Geometry),
     Refused(Refusal),
 }
 
 // The label in a volume's home block.
-#[derive(Drop)]
+#[derive(Clone, Copy)]
 pub struct Label {
     // H.VNAM, as six words.
     pub name1: u16,
@@ -55,7 +55,7 @@ pub struct Label {
 }
 
 // The answer of asking for a volume's label.
-#[derive(Drop)]
+#[derive(Clone, Copy)]
 pub enum LabelAnswer {
     Done(Label),
     Refused(Refusal),

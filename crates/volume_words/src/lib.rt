@@ -1,4 +1,7 @@
 // The answer words of the calls on a volume.
+
+#![tactic(auto)]
+
 ghost use Rattle.std.specs.Prelude.{◌≡◌};
 ghost use Rattle.volume_words.specs.Words.{geometry_words, label_words};
 
@@ -14,7 +17,7 @@ pub fn put_geometry(answer: &mut [u64; 12], res: GeometryAnswer)
             put_done(
                 answer,
                 [
-                    g.blocks as u64,
+                    g.fmax as u64,
                     g.home.0 as u64,
                     g.ibsz as u64,
                     g.iblb.0 as u64,

@@ -1,6 +1,9 @@
 // A walk over the records of a directory: a struct that keeps the image it reads and its record place, and thin functions over it. The
 // borrow checker covers no function over a struct that holds a reference, so each is proved by hand; the work is done by `open_file`,
 // `next_record` and `place_after`, which take plain data and slices and are covered.
+
+#![tactic(auto)]
+
 ghost use Rattle.std.specs.Prelude.{◌≡◌};
 ghost use Rattle.open_file.specs.Opening.{open_file_answer};
 ghost use Rattle.look_up.specs.LookUp.{next_record_answer};

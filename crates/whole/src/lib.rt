@@ -1,4 +1,7 @@
 // Whether a header is whole: the first test that it does not meet.
+
+#![tactic(auto)]
+
 ghost use Rattle.std.specs.Prelude.{◌≡◌, true, ◌+◌, ◌<◌, length};
 ghost use Rattle.lists.specs.First.{below};
 ghost use Rattle.pointers.specs.Pointers.{pointers, Fits};

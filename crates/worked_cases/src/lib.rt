@@ -1,4 +1,7 @@
 // The worked cases of 01 that are marked P.
+
+#![tactic(auto)]
+
 ghost use Rattle.worked_cases.specs.Cases.{Cases};
 
 // The cases marked P, as one statement about the definitions.

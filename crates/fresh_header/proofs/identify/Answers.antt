@@ -1,0 +1,8 @@
+-- The stores are the definition.
+use borrow.Author.Rules.{rules}
+use Rattle.fresh_header.specs.Fresh.{identified}
+use Rattle.fresh_header.proofs.identify.Goals as goal
+
+pub returns : goal.returns
+unfolding identified
+returns c = cc

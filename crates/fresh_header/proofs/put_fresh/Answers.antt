@@ -1,0 +1,8 @@
+-- The parts follow one another as in the definition.
+use borrow.Author.Rules.{rules}
+use Rattle.fresh_header.specs.Fresh.{fresh_header}
+use Rattle.fresh_header.proofs.put_fresh.Goals as goal
+
+pub returns : goal.returns
+unfolding fresh_header
+returns c = cc

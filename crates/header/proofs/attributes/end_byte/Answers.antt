@@ -1,0 +1,9 @@
+-- The formula of the definition, in 64 bits.
+use borrow.Author.Rules.{rules}
+use native.Mathlib.Omega.{arith}
+use Rattle.header.specs.Attributes.{f_ffby, end_byte}
+use Rattle.header.proofs.attributes.end_byte.Goals as goal
+
+pub returns : goal.returns
+unfolding end_byte f_ffby
+returns c = omega arith

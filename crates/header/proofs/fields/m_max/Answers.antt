@@ -1,0 +1,8 @@
+-- Nine bytes into the map area.
+use borrow.Author.Rules.{rules}
+use Rattle.header.specs.Fields.{m_max}
+use Rattle.header.proofs.fields.m_max.Goals as goal
+
+pub returns : goal.returns
+unfolding m_max
+returns c = cc
