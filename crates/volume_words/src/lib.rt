@@ -17,7 +17,7 @@ pub fn put_geometry(answer: &mut [u64; 12], res: GeometryAnswer)
             put_done(
                 answer,
                 [
-                    g.fmax as u64,
+                    g.blocks as u64,
                     g.home.0 as u64,
                     g.ibsz as u64,
                     g.iblb.0 as u64,
