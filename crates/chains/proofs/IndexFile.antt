@@ -10,7 +10,6 @@ use lib.ListN.{length, get_or, length-append, get_or-append}
 use Rattle.image.specs.Blocks.{block}
 use Rattle.header.specs.Fields.{h_fseq, segment, m_efnu, m_efsq}
 use Rattle.pointers.specs.Pointers.{blocks_of}
-use Rattle.home.specs.Home.{blocks}
 use Rattle.volume.specs.Volume.{ibsz, iblb, part_slot, follows, leads_on, places_from, places, index, index_ends, slot, slots, has_slot, header, is_number}
 use Rattle.pointers.specs.Pointers.{flat}
 use Rattle.volume.proofs.IndexLaws.{mapped-none, mapped-more, from_first, from_end, from_more, from-none, Leads, leads, used_low}

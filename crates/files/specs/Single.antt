@@ -1,6 +1,5 @@
 -- Volumes on which each header in use is the only one of its file.
 use Rattle.std.specs.Prelude.{◌≡◌, Bool, true, ◌&&◌, List, ℕ, ◌<◌, eqb}
-use Rattle.lists.specs.First.{first}
 use Rattle.header.specs.Fields.{segment, m_efnu}
 use Rattle.volume.specs.Volume.{header, in_use}
 

@@ -1,6 +1,5 @@
-// A walk over the records of a directory: a struct that keeps the image it reads and its record place, and thin functions over it. The
-// borrow checker covers no function over a struct that holds a reference, so each is proved by hand; the work is done by `open_file`,
-// `next_record` and `place_after`, which take plain data and slices and are covered.
+// A walk over the records of a directory: a struct that keeps the image it reads and its record place, and thin functions over it. The work is
+// done by `open_file`, `next_record` and `place_after`, which take plain data and slices.
 
 #![tactic(auto)]
 
