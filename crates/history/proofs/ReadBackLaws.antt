@@ -36,7 +36,7 @@ use Rattle.update.proofs.LastLaws.{file-grow}
 use Rattle.update.proofs.CreateLaws.{create-header, create-effect}
 use Rattle.update.proofs.ExtendLaws.{extend-header, extend-effect, extends as grown}
 use Rattle.update.proofs.DeleteLaws.{delete-known, delete-effect}
-use Rattle.history.specs.Calls.{create, extend, delete, image_after}
+use Rattle.history.specs.Calls.{image_after}
 use Rattle.history.specs.ReadBack.{AfterCreate, AfterExtend, AfterDelete, CallsReadBack}
 use Rattle.history.proofs.OpenLaws.{open-file, first-in}
 use Rattle.history.proofs.CreateStep as creating

@@ -19,7 +19,7 @@ use Rattle.image.proofs.StoreLaws.{Keeps, keeps-trans, keeps-weaken}
 use Rattle.header.specs.Fields.{m_efnu, m_use, m_max}
 use Rattle.pointers.specs.Pointers.{blocks_of}
 use Rattle.home.specs.Home.{blocks, position, home_index}
-use Rattle.volume.specs.Volume.{ibsz, iblb, fmax, slot, slots, header, fault_of, in_use, index_map, map_blocks, base, storage_map}
+use Rattle.volume.specs.Volume.{ibsz, iblb, slot, slots, header, fault_of, in_use, index_map, map_blocks, base, storage_map}
 use Rattle.volume.proofs.VolumeLaws.{slot-below, header-length, base-fits}
 use Rattle.chains.specs.Chains.{chain_of, file_blocks}
 use Rattle.pointers.specs.Pointers.{flat}

@@ -1,5 +1,4 @@
 -- The header that is read is the file's first.
-use borrow.Author.Rules.{rules}
 use mathlib.Core.Path.{◌≡◌, refl, sym, ap, ap₂, ◌∙◌}
 use Rattle.image.specs.Stores.{zeros}
 use Rattle.image.specs.Blocks.{block}

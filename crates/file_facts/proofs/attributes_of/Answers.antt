@@ -1,5 +1,4 @@
 -- Each word stands where the definition has it.
-use borrow.Author.Rules.{rules}
 use Rattle.header.specs.Fields.{h_fown, h_fpro, h_fcha}
 use Rattle.header.specs.Attributes.{f_rtyp_ratt, f_rsiz, f_hibk, f_efbk, f_ffby}
 use Rattle.file_facts.specs.Files.{attributes_of}

@@ -1,5 +1,4 @@
 -- The stores are the definition.
-use borrow.Author.Rules.{rules}
 use Rattle.fresh_header.specs.Fresh.{identified}
 use Rattle.fresh_header.proofs.identify.Goals as goal
 

@@ -1,5 +1,4 @@
 -- The parts follow one another as in the definition.
-use borrow.Author.Rules.{rules}
 use Rattle.fresh_header.specs.Fresh.{fresh_header}
 use Rattle.fresh_header.proofs.put_fresh.Goals as goal
 

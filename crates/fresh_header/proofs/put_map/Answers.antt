@@ -1,6 +1,5 @@
 -- The stores are the definition.
 use mathlib.Core.Path.{refl}
-use borrow.Author.Rules.{rules}
 use Rattle.fresh_header.specs.Fresh.{mapped}
 use Rattle.fresh_header.proofs.put_map.Goals as goal
 

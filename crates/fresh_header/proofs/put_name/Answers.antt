@@ -1,5 +1,4 @@
 -- The stores are the definition.
-use borrow.Author.Rules.{rules}
 use Rattle.fresh_header.specs.Fresh.{named}
 use Rattle.fresh_header.proofs.put_name.Goals as goal
 

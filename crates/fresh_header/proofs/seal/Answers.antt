@@ -1,5 +1,4 @@
 -- The sum is stored where the definition has it.
-use borrow.Author.Rules.{rules}
 use mathlib.Core.Path.{ap, ◌∙◌}
 use Prim.Native.Nat.{ℕ}
 use Rattle.image.specs.Stores.{put_word}

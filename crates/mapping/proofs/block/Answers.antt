@@ -1,5 +1,4 @@
 -- The block is the one at the LBN that the VBN maps to.
-use borrow.Author.Rules.{rules}
 use mathlib.Core.Path.{◌≡◌, sym, ◌∙◌}
 use Rattle.answer.specs.declared.answers.LbnAnswer.TheVariants.{Done}
 use Rattle.mapping.specs.Mapping.{map_answer, block_of}

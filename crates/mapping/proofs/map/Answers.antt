@@ -1,5 +1,4 @@
 -- The tests are those of the definition, and the place of a VBN is one less.
-use borrow.Author.Rules.{rules}
 use mathlib.Core.Path.{◌≡◌, refl, sym, ◌∙◌}
 use native.Mathlib.Omega.{arith}
 use Rattle.image.specs.Stores.{zeros}

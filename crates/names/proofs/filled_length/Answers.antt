@@ -2,10 +2,10 @@
 use native.Mathlib.Omega.{arith}
 use borrow.Author.Rules.{rules}
 use mathlib.Core.Path.{◌≡◌, refl, sym, ap, ◌∙◌}
-use Prim.Native.Nat.{◌+◌, ◌≤◌, ◌-◌}
+use Prim.Native.Nat.{◌-◌}
 use lib.ListN.{length, drop, length-drop}
 use lib.Seq.{take_all}
-use Rattle.names.specs.Names.{blank, filled, kept}
+use Rattle.names.specs.Names.{blank}
 use Rattle.names.proofs.NameLaws.{blank-kept, filled-blank, filled_on, filled_off, filled-end, kept_on, kept-end}
 use Rattle.names.proofs.filled_length.Goals as goal
 

@@ -1,11 +1,7 @@
-use native.Mathlib.Omega.{arith}
-use borrow.Author.Rules.{rules}
-use mathlib.Core.Path.{◌≡◌, refl, sym, ap, ◌∙◌}
+use mathlib.Core.Path.{◌≡◌}
 use Prim.Native.Nat.{◌+◌, ◌≤◌, ◌-◌}
-use lib.ListN.{length, drop, length-drop}
-use lib.Seq.{take_all}
-use Rattle.names.specs.Names.{blank, filled, kept}
-use Rattle.names.proofs.NameLaws.{blank-kept, filled-blank, filled_on, filled_off, filled-end, kept_on, kept-end}
+use lib.ListN.{length, drop}
+use Rattle.names.specs.Names.{filled, kept}
 use Rattle.names.proofs.filled_length.Given as goal
 
 abbrev pub invariant-loop-i : goal.invariant-loop-i

@@ -1,10 +1,7 @@
 -- The loop goes through the codes from the front, as `blank` does.
 use native.Mathlib.Omega.{arith}
 use borrow.Author.Rules.{rules}
-use mathlib.Core.Path.{◌≡◌, refl, sym, ◌∙◌}
-use Prim.Native.Nat.{◌≤◌, ◌-◌}
-use lib.ListN.{length, drop}
-use Rattle.names.specs.Names.{blank}
+use mathlib.Core.Path.{refl, sym, ◌∙◌}
 use Rattle.names.proofs.NameLaws.{blank-on, blank-off, blank-end}
 use Rattle.names.proofs.is_blank.Goals as goal
 

@@ -1,5 +1,4 @@
 -- A name is proper by the lengths of its parts and its version.
-use borrow.Author.Rules.{rules}
 use Rattle.names.proofs.ProperLaws.{proper-parts}
 use Rattle.names.proofs.is_proper.Goals as goal
 

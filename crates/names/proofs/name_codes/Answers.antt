@@ -1,4 +1,3 @@
-use borrow.Author.Rules.{rules}
 use Rattle.radix50.specs.Words.{codes}
 use Rattle.names.specs.Names.{name_codes}
 use Rattle.names.proofs.name_codes.Goals as goal

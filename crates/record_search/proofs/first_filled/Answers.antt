@@ -1,9 +1,6 @@
 -- No record before i is wanted.
 use borrow.Author.Rules.{rules}
-use mathlib.Core.Path.{◌≡◌}
-use Prim.Native.Nat.{◌-◌, ◌≤◌}
 use native.Mathlib.Omega.{arith}
-use Rattle.lists.specs.First.{first}
 use Rattle.lists.proofs.FirstLaws.{first-here, first_on, first-none}
 use Rattle.records.specs.Records.{wanted_in}
 use Rattle.records.specs.declared.Wanted.TheVariants.{Any}

@@ -1,5 +1,4 @@
 -- By cases on what is wanted.
-use borrow.Author.Rules.{rules}
 use Rattle.record_search.proofs.first_in.Goals as goal
 
 pub returns-in-Any : goal.returns-in-Any

@@ -1,5 +1,4 @@
 -- The record's number word is a word of the block.
-use borrow.Author.Rules.{rules}
 use Rattle.records.proofs.RecordLaws.{filled_in}
 use Rattle.record_search.proofs.is_filled.Goals as goal
 

@@ -1,5 +1,4 @@
 -- The record's words are words of the block; where the version or the first word of the name differs, the rest is not looked at.
-use borrow.Author.Rules.{rules}
 use native.Mathlib.Omega.{arith}
 use borrow.Author.Tests.{eq-eqb, ne_eqb}
 use Rattle.records.proofs.RecordLaws.{named_in}

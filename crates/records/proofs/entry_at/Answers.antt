@@ -1,5 +1,4 @@
 -- The eight words of the record are words of the block.
-use borrow.Author.Rules.{rules}
 use Rattle.records.proofs.RecordLaws.{entry_in}
 use Rattle.records.proofs.entry_at.Goals as goal
 

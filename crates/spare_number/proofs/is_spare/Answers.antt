@@ -1,5 +1,4 @@
 -- The tests of the definition, one after the other.
-use borrow.Author.Rules.{rules}
 use native.Mathlib.Omega.{arith}
 use mathlib.Core.Path.{sym, ◌∙◌}
 use Rattle.slots.proofs.SlotLaws.{stands_at, stands-header, stands-none}

@@ -1,13 +1,11 @@
 -- The loop is at n while none of the numbers from 6 to below n is spare and its run of slots stands at n.
-use borrow.Author.Rules.{rules}
 use native.Mathlib.Omega.{arith}
 use mathlib.Core.Path.{◌≡◌, sym, ap, ◌∙◌}
-use Prim.Native.Nat.{◌+◌, ◌-◌, ◌≤◌, ◌<◌}
+use Prim.Native.Nat.{◌+◌, ◌<◌}
 use Rattle.lists.specs.First.{first}
 use Rattle.lists.proofs.FirstLaws.{first-here, first_on, first-none}
 use Rattle.volume.specs.Volume.{fmax}
 use Rattle.volume.proofs.VolumeLaws.{opens}
-use Rattle.slots.specs.Slots.{Stands}
 use Rattle.slots.proofs.SlotLaws.{stands-none, opened-fmax, read-inside, read-used}
 use Rattle.spare_number.specs.SpareNumber.{is_spare, spare_number}
 use Rattle.spare_number.proofs.SpareLaws.{spare-none}

@@ -1,5 +1,4 @@
 -- Header 1 lies on the volume and its pointers in it; they map at least m+18 blocks.
-use borrow.Author.Rules.{rules}
 use mathlib.Core.Path.{◌≡◌, ap, ◌∙◌}
 use Prim.Native.Nat.{◌+◌, ◌≤◌}
 use native.Mathlib.Omega.{arith}

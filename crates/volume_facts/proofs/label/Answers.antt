@@ -1,5 +1,4 @@
 -- The volume is opened first, and the block that is read is its home.
-use borrow.Author.Rules.{rules}
 use mathlib.Core.Path.{◌≡◌, refl, sym, ap, ◌∙◌}
 use native.Mathlib.Omega.{arith}
 use Rattle.image.specs.Stores.{zeros}

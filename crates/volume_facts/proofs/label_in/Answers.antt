@@ -1,5 +1,4 @@
 -- Each word is read where the definition has it.
-use borrow.Author.Rules.{rules}
 use Rattle.volume_facts.specs.Volumes.{h_vnam, h_vown, h_vpro, h_vcha, h_dfpr, label_in}
 use Rattle.volume_facts.proofs.label_in.Goals as goal
 

@@ -1,5 +1,4 @@
 -- The formula of the definition, in 64 bits.
-use borrow.Author.Rules.{rules}
 use native.Mathlib.Omega.{arith}
 use Rattle.header.specs.Attributes.{f_ffby, end_byte}
 use Rattle.header.proofs.attributes.end_byte.Goals as goal

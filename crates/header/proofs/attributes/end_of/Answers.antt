@@ -1,5 +1,4 @@
 -- An end in VBN 0 is none, and an end past the last block is the last block's.
-use borrow.Author.Rules.{rules}
 use native.Mathlib.Omega.{arith}
 use Rattle.header.proofs.AttributeLaws.{end_none, end-given}
 use Rattle.header.proofs.attributes.end_of.Goals as goal

@@ -1,5 +1,4 @@
 -- Its two words begin at byte 22.
-use borrow.Author.Rules.{rules}
 use Rattle.header.specs.Attributes.{f_efbk}
 use Rattle.header.proofs.attributes.f_efbk.Goals as goal
 

@@ -1,5 +1,4 @@
 -- The word at the field's place.
-use borrow.Author.Rules.{rules}
 use Rattle.header.specs.Fields.{h_fseq}
 use Rattle.header.proofs.fields.h_fseq.Goals as goal
 

@@ -1,5 +1,4 @@
 -- Two bytes into the map area.
-use borrow.Author.Rules.{rules}
 use Rattle.header.specs.Fields.{m_efnu}
 use Rattle.header.proofs.fields.m_efnu.Goals as goal
 

@@ -1,5 +1,4 @@
 -- Four bytes into the map area.
-use borrow.Author.Rules.{rules}
 use Rattle.header.specs.Fields.{m_efsq}
 use Rattle.header.proofs.fields.m_efsq.Goals as goal
 

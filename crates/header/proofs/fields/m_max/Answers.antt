@@ -1,5 +1,4 @@
 -- Nine bytes into the map area.
-use borrow.Author.Rules.{rules}
 use Rattle.header.specs.Fields.{m_max}
 use Rattle.header.proofs.fields.m_max.Goals as goal
 

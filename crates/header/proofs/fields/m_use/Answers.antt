@@ -1,5 +1,4 @@
 -- Eight bytes into the map area.
-use borrow.Author.Rules.{rules}
 use Rattle.header.specs.Fields.{m_use}
 use Rattle.header.proofs.fields.m_use.Goals as goal
 

@@ -1,5 +1,4 @@
 -- Twice H.MPOF, a byte.
-use borrow.Author.Rules.{rules}
 use native.Mathlib.Omega.{arith}
 use Rattle.header.specs.Fields.{h_mpof, map_area}
 use Rattle.header.proofs.fields.map_area.Goals as goal

@@ -1,5 +1,4 @@
 -- The first byte of the map area.
-use borrow.Author.Rules.{rules}
 use Rattle.header.specs.Fields.{segment}
 use Rattle.header.proofs.fields.segment.Goals as goal
 

@@ -1,5 +1,4 @@
 -- The byte at the field's place.
-use borrow.Author.Rules.{rules}
 use Rattle.header.specs.Fields.{system_flags}
 use Rattle.header.proofs.fields.system_flags.Goals as goal
 

@@ -1,5 +1,4 @@
 -- The byte at the field's place.
-use borrow.Author.Rules.{rules}
 use Rattle.header.specs.Fields.{user_flags}
 use Rattle.header.proofs.fields.user_flags.Goals as goal
 

@@ -1,5 +1,4 @@
 -- The flag is compared as a number.
-use borrow.Author.Rules.{rules}
 use Rattle.header.specs.Flags.{has_flag, is_fixed}
 use Rattle.header.proofs.flags.is_fixed.Goals as goal
 

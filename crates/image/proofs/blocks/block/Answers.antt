@@ -1,5 +1,4 @@
 -- A block is the region of one block.
-use Rattle.std.proofs.Common.{rules}
 use Rattle.image.specs.Blocks.{region, block}
 use Rattle.image.proofs.blocks.block.Goals as goal
 

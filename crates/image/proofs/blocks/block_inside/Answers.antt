@@ -1,5 +1,5 @@
 -- The part that is handed on is the block.
-use Rattle.std.proofs.Common.{◌≡◌, ◌+◌, ◌-◌, ◌*◌, arith, rules}
+use Rattle.std.proofs.Common.{◌≡◌, ◌+◌, ◌-◌, ◌*◌, arith}
 use Rattle.image.specs.Blocks.{block}
 use Rattle.image.proofs.blocks.block_inside.Goals as goal
 

@@ -1,5 +1,5 @@
 -- Where the image ends before the region does, what is left of it is all that `take` has to take.
-use Rattle.std.proofs.Common.{◌≡◌, ◌+◌, ◌-◌, ◌*◌, length, drop, sym, ◌∙◌, arith, length-drop, drop_of_length-le, take_all, rules}
+use Rattle.std.proofs.Common.{◌≡◌, ◌+◌, ◌-◌, ◌*◌, length, drop, sym, ◌∙◌, arith, length-drop, drop_of_length-le, take_all}
 use lib.Seq.{take-nil}
 use Rattle.image.specs.Blocks.{region}
 use Rattle.image.proofs.blocks.region.Goals as goal

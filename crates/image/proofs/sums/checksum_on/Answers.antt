@@ -1,6 +1,5 @@
 -- At each turn the running sum is the checksum of the words read so far.
-use Rattle.std.proofs.Common.{◌≡◌, ◌-◌, ◌≤◌, arith, rules}
-use Rattle.image.specs.Sums.{checksum}
+use Rattle.std.proofs.Common.{◌≡◌, arith, rules}
 use Rattle.image.proofs.SumLaws.{checksum-more}
 use Rattle.image.proofs.sums.checksum_on.Goals as goal
 

@@ -1,6 +1,5 @@
-use Rattle.std.proofs.Common.{◌≡◌, ◌-◌, ◌≤◌, arith, rules}
+use Rattle.std.proofs.Common.{◌≡◌, ◌-◌, ◌≤◌}
 use Rattle.image.specs.Sums.{checksum}
-use Rattle.image.proofs.SumLaws.{checksum-more}
 use Rattle.image.proofs.sums.checksum_on.Given as goal
 
 abbrev pub invariant-loop-i : goal.invariant-loop-i
