@@ -14,8 +14,7 @@ use delete::delete;
 use extend::extend;
 
 // A new file of no blocks, by its name, owner and protection: its ID.
-#[unsafe(no_mangle)]
-pub extern "C" fn ods1_create(
+pub fn ods1_create(
     image: &mut [u8],
     name1: u16,
     name2: u16,
@@ -45,8 +44,7 @@ pub extern "C" fn ods1_create(
 }
 
 // A file with so many blocks more, in a row: the first of them.
-#[unsafe(no_mangle)]
-pub extern "C" fn ods1_extend(
+pub fn ods1_extend(
     image: &mut [u8],
     number: u16,
     sequence: u16,
@@ -71,8 +69,7 @@ pub extern "C" fn ods1_extend(
 }
 
 // A file given up: its numbers, its slots and its blocks.
-#[unsafe(no_mangle)]
-pub extern "C" fn ods1_delete(
+pub fn ods1_delete(
     image: &mut [u8],
     number: u16,
     sequence: u16,

@@ -11,8 +11,7 @@ use directory_words::put_next_record;
 use look_up::{look_up, next_record};
 
 // The ID that a directory has under a name, as it is stored.
-#[unsafe(no_mangle)]
-pub extern "C" fn ods1_look_up(
+pub fn ods1_look_up(
     image: &[u8],
     number: u16,
     sequence: u16,
@@ -45,8 +44,7 @@ pub extern "C" fn ods1_look_up(
 }
 
 // The next record of a directory that is not empty, from a place on, and the place to go on from.
-#[unsafe(no_mangle)]
-pub extern "C" fn ods1_next_record(
+pub fn ods1_next_record(
     image: &[u8],
     number: u16,
     sequence: u16,

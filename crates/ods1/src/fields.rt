@@ -19,8 +19,7 @@ use volume_facts::{geometry, label};
 use volume_words::{put_geometry, put_label};
 
 // Where the parts of a volume lie.
-#[unsafe(no_mangle)]
-pub extern "C" fn ods1_geometry(image: &[u8], answer: &mut [u64; 12])
+pub fn ods1_geometry(image: &[u8], answer: &mut [u64; 12])
     ensures { answer.new ≡ geometry_words (geometry_answer image.now) }
 {
     let result = geometry(image);
@@ -28,8 +27,7 @@ pub extern "C" fn ods1_geometry(image: &[u8], answer: &mut [u64; 12])
 }
 
 // The label of a volume: six words of its name, owner, protection, characteristics, default file protection.
-#[unsafe(no_mangle)]
-pub extern "C" fn ods1_label(image: &[u8], answer: &mut [u64; 12])
+pub fn ods1_label(image: &[u8], answer: &mut [u64; 12])
     ensures { answer.new ≡ label_words (label_answer image.now) }
 {
     let result = label(image);
@@ -37,8 +35,7 @@ pub extern "C" fn ods1_label(image: &[u8], answer: &mut [u64; 12])
 }
 
 // What the header of a file number in use says.
-#[unsafe(no_mangle)]
-pub extern "C" fn ods1_header(image: &[u8], number: u16, answer: &mut [u64; 12])
+pub fn ods1_header(image: &[u8], number: u16, answer: &mut [u64; 12])
     ensures { answer.new ≡ header_words (header_answer image.now number) }
 {
     let result = header(image, FileNumber(number as u32));
@@ -46,8 +43,7 @@ pub extern "C" fn ods1_header(image: &[u8], number: u16, answer: &mut [u64; 12])
 }
 
 // A retrieval pointer of the header of a file number in use: its first LBN, and how many blocks it covers.
-#[unsafe(no_mangle)]
-pub extern "C" fn ods1_pointer(image: &[u8], number: u16, place: u32, answer: &mut [u64; 12])
+pub fn ods1_pointer(image: &[u8], number: u16, place: u32, answer: &mut [u64; 12])
     ensures { answer.new ≡ run_words (pointer_answer image.now number place) }
 {
     let result = pointer(image, FileNumber(number as u32), place);
@@ -55,8 +51,7 @@ pub extern "C" fn ods1_pointer(image: &[u8], number: u16, place: u32, answer: &m
 }
 
 // What an opened file says of itself: blocks, end of file, owner, protection, flags, attributes.
-#[unsafe(no_mangle)]
-pub extern "C" fn ods1_attributes(
+pub fn ods1_attributes(
     image: &[u8],
     number: u16,
     sequence: u16,

@@ -11,8 +11,7 @@ use extents::extent;
 use free_run::free_run;
 
 // The extent of a file from a VBN on: its LBN, and how many blocks lie in a row.
-#[unsafe(no_mangle)]
-pub extern "C" fn ods1_extent(
+pub fn ods1_extent(
     image: &[u8],
     number: u16,
     sequence: u16,
@@ -35,8 +34,7 @@ pub extern "C" fn ods1_extent(
 }
 
 // The first run of free blocks from an LBN on: its first LBN, and how many blocks it has.
-#[unsafe(no_mangle)]
-pub extern "C" fn ods1_free_run(image: &[u8], from: u32, answer: &mut [u64; 12])
+pub fn ods1_free_run(image: &[u8], from: u32, answer: &mut [u64; 12])
     ensures { answer.new ≡ run_words (free_run_answer image.now from) }
 {
     let result = free_run(image, Lbn(from));

@@ -7,13 +7,7 @@ use verdict::judge;
 use verdict_words::put_judge;
 
 // Whether a volume opens and is sound: the number of its blocks, and how many blocks are covered, bits free and file numbers in use.
-#[unsafe(no_mangle)]
-pub extern "C" fn ods1_judge(
-    image: &[u8],
-    blocks: &mut [u8],
-    headers: &mut [u8],
-    answer: &mut [u64; 12],
-)
+pub fn ods1_judge(image: &[u8], blocks: &mut [u8], headers: &mut [u8], answer: &mut [u64; 12])
     ensures { (answer.new ≡ judge_words (judge_answer image.now blocks.old headers.old))
         × (blocks.new ≡ block_marks image.now blocks.old headers.old)
         × (headers.new ≡ header_marks image.now blocks.old headers.old) }

@@ -7,8 +7,7 @@ use answer_words::put_lbn;
 use open_volume::open_volume;
 
 // The LBN of a volume's home.
-#[unsafe(no_mangle)]
-pub extern "C" fn ods1_open_volume(image: &[u8], answer: &mut [u64; 12])
+pub fn ods1_open_volume(image: &[u8], answer: &mut [u64; 12])
     ensures { answer.new ≡ lbn_words (open_volume_answer image.now) }
 {
     let result = open_volume(image);
