@@ -1,145 +1,168 @@
 // Runs the worked examples of 01 that are not marked P, and those of extend that are, and prints each answer. Volume V is read from standard input.
-
 #![tactic(auto)]
 
-use libc::{STDIN_FILENO, STDOUT_FILENO};
+ghost use Rattle.std.specs.Io.{ReadsAtMost};
+
 use ods1::changes::{ods1_create, ods1_delete, ods1_extend};
 use ods1::directories::{ods1_look_up, ods1_next_record};
-use ods1::files::{ods1_block, ods1_map, ods1_open_file};
+use ods1::file_blocks::{ods1_block, ods1_map, ods1_open_file};
 use ods1::verdicts::ods1_judge;
 use ods1::volumes::ods1_open_volume;
+use std::io;
+use std::io::Read;
 use volume::map_blocks;
 
+// Reads until the buffer is full or the input ends, and returns how many bytes it put at the buffer's start.
+fn fill(input: &mut impl Read, buffer: &mut [u8]) -> io::Result<usize>
+    ensures { ReadsAtMost result buffer.new }
+{
+    let mut filled = 0;
+    while filled < buffer.len() {
+        let n = input.read(&mut buffer[filled..])?;
+        if n == 0 {
+            break;
+        }
+        filled += n;
+    }
+    Ok(filled)
+}
+
 // Writes text.
-fn say(text: &[u8]) {
-    io::write_all(STDOUT_FILENO, text);
+fn say(rt: &impl Print, text: &str) -> io::Result<()> {
+    print!(rt; "{text}")
 }
 
 // Writes a number.
-fn tell(n: u64) {
-    io::print_decimal(STDOUT_FILENO, n);
+fn tell(rt: &impl Print, n: u64) -> io::Result<()> {
+    print!(rt; "{n}")
 }
 
 // Writes a file ID.
-fn tell_id(number: u16, sequence: u16) {
-    say(b" ");
-    tell(number as u64);
-    say(b",");
-    tell(sequence as u64);
-    say(b",0");
+fn tell_id(rt: &impl Print, number: u16, sequence: u16) -> io::Result<()> {
+    say(rt, " ")?;
+    tell(rt, number as u64)?;
+    say(rt, ",")?;
+    tell(rt, sequence as u64)?;
+    say(rt, ",0")
 }
 
 // Writes a value word.
-fn tell_value(n: u64) {
-    say(b" ");
-    tell(n);
+fn tell_value(rt: &impl Print, n: u64) -> io::Result<()> {
+    say(rt, " ")?;
+    tell(rt, n)
 }
 
 // Writes an answer: its number, its place and its value words, of which no call uses more than nine.
-fn show(answer: &[u64; 12]) {
-    say(b": answer ");
-    tell(answer[0]);
-    say(b" place ");
-    tell(answer[1]);
-    say(b" value");
-    tell_value(answer[2]);
-    tell_value(answer[3]);
-    tell_value(answer[4]);
-    tell_value(answer[5]);
-    tell_value(answer[6]);
-    tell_value(answer[7]);
-    tell_value(answer[8]);
-    tell_value(answer[9]);
-    tell_value(answer[10]);
-    say(b"\n");
+fn show(rt: &impl Print, answer: &[u64; 12]) -> io::Result<()> {
+    say(rt, ": answer ")?;
+    tell(rt, answer[0])?;
+    say(rt, " place ")?;
+    tell(rt, answer[1])?;
+    say(rt, " value")?;
+    tell_value(rt, answer[2])?;
+    tell_value(rt, answer[3])?;
+    tell_value(rt, answer[4])?;
+    tell_value(rt, answer[5])?;
+    tell_value(rt, answer[6])?;
+    tell_value(rt, answer[7])?;
+    tell_value(rt, answer[8])?;
+    tell_value(rt, answer[9])?;
+    tell_value(rt, answer[10])?;
+    say(rt, "\n")
 }
 
-fn open_volume(image: &[u8]) {
+fn open_volume(rt: &impl Print, image: &[u8]) -> io::Result<()> {
     let mut answer = [0u64; 12];
     ods1_open_volume(image, &mut answer);
-    say(b"open volume");
-    show(&answer);
+    say(rt, "open volume")?;
+    show(rt, &answer)
 }
 
-fn open_file(image: &[u8], number: u16, sequence: u16) {
+fn open_file(rt: &impl Print, image: &[u8], number: u16, sequence: u16) -> io::Result<()> {
     let mut answer = [0u64; 12];
     ods1_open_file(image, number, sequence, 0, &mut answer);
-    say(b"open file");
-    tell_id(number, sequence);
-    show(&answer);
+    say(rt, "open file")?;
+    tell_id(rt, number, sequence)?;
+    show(rt, &answer)
 }
 
-fn map(image: &[u8], number: u16, sequence: u16, vbn: u32) {
+fn map(rt: &impl Print, image: &[u8], number: u16, sequence: u16, vbn: u32) -> io::Result<()> {
     let mut answer = [0u64; 12];
     ods1_map(image, number, sequence, 0, vbn, &mut answer);
-    say(b"map");
-    tell_id(number, sequence);
-    say(b" VBN ");
-    tell(vbn as u64);
-    show(&answer);
+    say(rt, "map")?;
+    tell_id(rt, number, sequence)?;
+    say(rt, " VBN ")?;
+    tell(rt, vbn as u64)?;
+    show(rt, &answer)
 }
 
-fn block(image: &[u8], number: u16, sequence: u16, vbn: u32) {
+fn block(rt: &impl Print, image: &[u8], number: u16, sequence: u16, vbn: u32) -> io::Result<()> {
     let mut answer = [0u64; 12];
     ods1_block(image, number, sequence, 0, vbn, &mut answer);
-    say(b"block");
-    tell_id(number, sequence);
-    say(b" VBN ");
-    tell(vbn as u64);
-    show(&answer);
+    say(rt, "block")?;
+    tell_id(rt, number, sequence)?;
+    say(rt, " VBN ")?;
+    tell(rt, vbn as u64)?;
+    show(rt, &answer)
 }
 
 // Looks READS.DAT;1 up in the directory 4,4.
-fn look_up(image: &[u8]) {
+fn look_up(rt: &impl Print, image: &[u8]) -> io::Result<()> {
     let mut answer = [0u64; 12];
     ods1_look_up(image, 4, 4, 0, 29001, 7160, 0, 6460, 1, &mut answer);
-    say(b"look up READS.DAT;1 in 4,4,0");
-    show(&answer);
+    say(rt, "look up READS.DAT;1 in 4,4,0")?;
+    show(rt, &answer)
 }
 
-fn next_record(image: &[u8], place: u32) {
+fn next_record(rt: &impl Print, image: &[u8], place: u32) -> io::Result<()> {
     let mut answer = [0u64; 12];
     ods1_next_record(image, 4, 4, 0, place, &mut answer);
-    say(b"next record in 4,4,0 from ");
-    tell(place as u64);
-    show(&answer);
+    say(rt, "next record in 4,4,0 from ")?;
+    tell(rt, place as u64)?;
+    show(rt, &answer)
 }
 
-fn storage_map_of(blocks: u32) {
-    say(b"q at N ");
-    tell(blocks as u64);
-    say(b": ");
-    tell(map_blocks(blocks) as u64);
-    say(b"\n");
+fn storage_map_of(rt: &impl Print, blocks: u32) -> io::Result<()> {
+    say(rt, "q at N ")?;
+    tell(rt, blocks as u64)?;
+    say(rt, ": ")?;
+    tell(rt, map_blocks(blocks) as u64)?;
+    say(rt, "\n")
 }
 
 // What each header of Volume V covers, from its first to its last VBN.
-fn covers(image: &[u8]) {
-    open_file(image, 1, 1);
-    map(image, 1, 1, 1);
-    map(image, 1, 1, 19);
-    open_file(image, 2, 2);
-    map(image, 2, 2, 1);
-    map(image, 2, 2, 2);
-    open_file(image, 3, 3);
-    map(image, 3, 3, 1);
-    open_file(image, 4, 4);
-    map(image, 4, 4, 1);
-    open_file(image, 5, 5);
-    map(image, 5, 5, 1);
-    open_file(image, 6, 9);
-    map(image, 6, 9, 1);
-    block(image, 6, 9, 3);
+fn covers(rt: &impl Print, image: &[u8]) -> io::Result<()> {
+    open_file(rt, image, 1, 1)?;
+    map(rt, image, 1, 1, 1)?;
+    map(rt, image, 1, 1, 19)?;
+    open_file(rt, image, 2, 2)?;
+    map(rt, image, 2, 2, 1)?;
+    map(rt, image, 2, 2, 2)?;
+    open_file(rt, image, 3, 3)?;
+    map(rt, image, 3, 3, 1)?;
+    open_file(rt, image, 4, 4)?;
+    map(rt, image, 4, 4, 1)?;
+    open_file(rt, image, 5, 5)?;
+    map(rt, image, 5, 5, 1)?;
+    open_file(rt, image, 6, 9)?;
+    map(rt, image, 6, 9, 1)?;
+    block(rt, image, 6, 9, 3)
 }
 
-fn directory(image: &[u8]) {
-    look_up(image);
-    next_record(image, 0);
-    next_record(image, 1);
+fn directory(rt: &impl Print, image: &[u8]) -> io::Result<()> {
+    look_up(rt, image)?;
+    next_record(rt, image, 0)?;
+    next_record(rt, image, 1)
 }
 
 // Extends a file, with work areas of 100 and 16 bytes: as many as Volume V has blocks and file numbers.
-fn extend(image: &mut [u8], number: u16, sequence: u16, count: u32) {
+fn extend(
+    rt: &impl Print,
+    image: &mut [u8],
+    number: u16,
+    sequence: u16,
+    count: u32,
+) -> io::Result<()> {
     let mut answer = [0u64; 12];
     let mut blocks = [0u8; 100];
     let mut headers = [0u8; 16];
@@ -153,15 +176,15 @@ fn extend(image: &mut [u8], number: u16, sequence: u16, count: u32) {
         &mut headers,
         &mut answer,
     );
-    say(b"extend");
-    tell_id(number, sequence);
-    say(b" by ");
-    tell(count as u64);
-    show(&answer);
+    say(rt, "extend")?;
+    tell_id(rt, number, sequence)?;
+    say(rt, " by ")?;
+    tell(rt, count as u64)?;
+    show(rt, &answer)
 }
 
 // Creates READS.DAT;2, with owner and protection 0.
-fn create(image: &mut [u8]) {
+fn create(rt: &impl Print, image: &mut [u8]) -> io::Result<()> {
     let mut answer = [0u64; 12];
     let mut blocks = [0u8; 100];
     let mut headers = [0u8; 16];
@@ -178,11 +201,11 @@ fn create(image: &mut [u8]) {
         &mut headers,
         &mut answer,
     );
-    say(b"create READS.DAT;2");
-    show(&answer);
+    say(rt, "create READS.DAT;2")?;
+    show(rt, &answer)
 }
 
-fn delete(image: &mut [u8], number: u16, sequence: u16) {
+fn delete(rt: &impl Print, image: &mut [u8], number: u16, sequence: u16) -> io::Result<()> {
     let mut answer = [0u64; 12];
     let mut blocks = [0u8; 100];
     let mut headers = [0u8; 16];
@@ -195,61 +218,61 @@ fn delete(image: &mut [u8], number: u16, sequence: u16) {
         &mut headers,
         &mut answer,
     );
-    say(b"delete");
-    tell_id(number, sequence);
-    show(&answer);
+    say(rt, "delete")?;
+    tell_id(rt, number, sequence)?;
+    show(rt, &answer)
 }
 
-fn judge(image: &[u8]) {
+fn judge(rt: &impl Print, image: &[u8]) -> io::Result<()> {
     let mut answer = [0u64; 12];
     let mut blocks = [0u8; 100];
     let mut headers = [0u8; 16];
     ods1_judge(image, &mut blocks, &mut headers, &mut answer);
-    say(b"judge");
-    show(&answer);
+    say(rt, "judge")?;
+    show(rt, &answer)
 }
 
 // Extends 6,9 and tells what it then has.
-fn extend_and_judge(image: &mut [u8], count: u32) {
-    extend(image, 6, 9, count);
-    open_file(image, 6, 9);
-    map(image, 6, 9, 4);
-    judge(image);
+fn extend_and_judge(rt: &impl Print, image: &mut [u8], count: u32) -> io::Result<()> {
+    extend(rt, image, 6, 9, count)?;
+    open_file(rt, image, 6, 9)?;
+    map(rt, image, 6, 9, 4)?;
+    judge(rt, image)
 }
 
 // The user's story: 6,9 is deleted and its number used again, and the old entry still names 6,9.
-fn old_entry(image: &mut [u8]) {
-    delete(image, 6, 9);
-    open_file(image, 6, 9);
-    create(image);
-    look_up(image);
-    open_file(image, 6, 9);
-    open_file(image, 6, 10);
-    extend(image, 6, 9, 1);
-    delete(image, 6, 9);
-    judge(image);
+fn old_entry(rt: &impl Print, image: &mut [u8]) -> io::Result<()> {
+    delete(rt, image, 6, 9)?;
+    open_file(rt, image, 6, 9)?;
+    create(rt, image)?;
+    look_up(rt, image)?;
+    open_file(rt, image, 6, 9)?;
+    open_file(rt, image, 6, 10)?;
+    extend(rt, image, 6, 9, 1)?;
+    delete(rt, image, 6, 9)?;
+    judge(rt, image)
 }
 
-fn main() {
+fn main(rt: HostRuntime) -> io::Result<()> {
     let mut image = [0u8; 51200];
-    let n = io::read_full(STDIN_FILENO, &mut image);
-    say(b"bytes ");
-    tell(n as u64);
-    say(b"\n");
-    open_volume(&image);
-    covers(&image);
-    directory(&image);
+    let n = fill(&mut rt.stdin(), &mut image)?;
+    say(&rt, "bytes ")?;
+    tell(&rt, n as u64)?;
+    say(&rt, "\n")?;
+    open_volume(&rt, &image)?;
+    covers(&rt, &image)?;
+    directory(&rt, &image)?;
     let mut by4 = image;
-    extend_and_judge(&mut by4, 4);
+    extend_and_judge(&rt, &mut by4, 4)?;
     let mut by67 = image;
-    extend_and_judge(&mut by67, 67);
+    extend_and_judge(&rt, &mut by67, 67)?;
     let mut by68 = image;
-    extend_and_judge(&mut by68, 68);
+    extend_and_judge(&rt, &mut by68, 68)?;
     let mut created = image;
-    create(&mut created);
-    open_file(&created, 7, 1);
-    judge(&created);
-    old_entry(&mut image);
-    storage_map_of(516096);
-    storage_map_of(1044480);
+    create(&rt, &mut created)?;
+    open_file(&rt, &created, 7, 1)?;
+    judge(&rt, &created)?;
+    old_entry(&rt, &mut image)?;
+    storage_map_of(&rt, 516096)?;
+    storage_map_of(&rt, 1044480)
 }
