@@ -1,6 +1,6 @@
 # What can be made here. `make` alone tells the same.
 
-.PHONY: help setup tool judge test bench bench-against install
+.PHONY: help setup library tool judge test bench bench-against install
 
 # What is judged.
 IMAGE = samples/volume-v.dsk
@@ -25,6 +25,7 @@ help:
 	@echo 'make judge IMAGE=FILE build the proved library and the tool, and judge the volume in FILE;'
 	@echo '                      without IMAGE it judges Volume V, samples/volume-v.dsk'
 	@echo 'make test             prove every crate, build everything and run every test: what the gate runs'
+	@echo 'make library          prove and build the library, $(LIBRARY)'
 	@echo 'make tool             build the tool, $(TOOL)'
 	@echo 'make install          install it with its man page and completions below PREFIX, $(PREFIX)'
 	@echo 'make bench            measure the exported calls against plain Rust, and the tool against its calls'
@@ -36,10 +37,12 @@ help:
 setup:
 	@scripts/setup.sh
 
-$(LIBRARY): crates.txt $(shell find crates -type f 2>/dev/null)
+$(LIBRARY): crates.txt scripts/library.sh $(shell find crates -name out -prune -o -type f -print 2>/dev/null)
 	@echo 'proving and building the library, which takes some minutes once' >&2
 	@mkdir -p target
-	@rt staticlib ods1 >target/staticlib.log 2>&1 || { cat target/staticlib.log >&2; exit 1; }
+	@scripts/library.sh >target/library.log 2>&1 || { cat target/library.log >&2; exit 1; }
+
+library: $(LIBRARY)
 
 tool: setup $(LIBRARY)
 	@$(CARGO) build --release --offline --locked -p ods1-tool

@@ -3,7 +3,7 @@
 #
 # The last line is 'N passed, M failed'. The exit status is 0 only if M is 0. Above it stands what each
 # kind of work took. ODS1_SEED and ODS1_CASES reach the comparisons of library and model, for a long
-# run. ODS1_SHM names the system's memory file system, if it is not /dev/shm.
+# run.
 
 set -u -o pipefail
 cd "$(dirname "${BASH_SOURCE[0]}")/.." || exit 1
@@ -14,39 +14,10 @@ unset ODS1_CASE
 # Where cargo's own installer puts it, if nothing else says where it is.
 command -v cargo >/dev/null || PATH="$PATH:${CARGO_HOME:-${HOME:-/}/.cargo}/bin"
 
-archive=target/staticlib/libods1.a
 passed=0
 failed=0
-scratch=
 log=$(mktemp) || exit 1
-trap 'rm -rf "$log" "$scratch"' EXIT
-
-# memory_folder SHM: makes a folder of its own on SHM, and prints its path, if SHM is a memory file
-# system with over 2 GB free, programs can be run from it, and the user that rt runs them as can reach
-# it: where rt is root, that is the user nobody.
-memory_folder() {
-    local kind blocks size folder as=()
-    read -r kind blocks size < <(stat -f -c '%T %a %S' "$1" 2>/dev/null)
-    [[ $kind == tmpfs ]] && ((blocks * size > 2000000000)) || return
-    folder=$(mktemp -d "$1/ods1-gate.XXXXXX" 2>/dev/null) || return
-    if ((EUID == 0)); then
-        as=(setpriv --reuid=65534 --regid=65534 --clear-groups --no-new-privs)
-    fi
-    printf '#!/bin/sh\n' >"$folder/program"
-    chmod 711 "$folder"
-    chmod 755 "$folder/program"
-    if "${as[@]}" "$folder/program" 2>/dev/null; then
-        rm "$folder/program"
-        printf '%s\n' "$folder"
-    else
-        rm -rf "$folder"
-    fi
-}
-
-# Each check first copies all that its crate stands on, some hundreds of megabytes: rt keeps its
-# temporary files in memory, if there is a folder for them.
-scratch=$(memory_folder "${ODS1_SHM:-/dev/shm}")
-rt_files=${scratch:-${TMPDIR:-/tmp}}
+trap 'rm -f "$log"' EXIT
 
 # cpu_of PID: sets $cpu to the hundredths of a second that a process and its ended children have
 # spent on the processors.
@@ -111,14 +82,15 @@ run() {
     status=${PIPESTATUS[0]}
 }
 
-# run_proofs: runs rt ci as run does, and tells by its lines when it has proved the crates and when it
-# has tried the wrong programs: 'rt: NAME proved ..', and then 'rt: must-fail NAME/EDIT: ..'. By the
-# time of a line rt has waited for all that it started, and counts it as its own.
+# run_proofs: runs rt ci as run does, and tells by its lines when it has proved the crates, or taken
+# what an earlier run proved of the same files, and when it has tried the wrong programs. It tries
+# those beside the proofs, where a processor is free, and tells of all of them at the end: so what it
+# tried until the last proof counts as proofs, and what it took from there on as wrong programs.
 run_proofs() {
     local line lines kept pid before tried=
     cpu_of $$
     before=$cpu
-    exec {kept}>"$log" {lines}< <(TMPDIR=$rt_files exec rt ci)
+    exec {kept}>"$log" {lines}< <(exec rt ci)
     pid=$!
     while IFS= read -r -u "$lines" line || [[ -n $line ]]; do
         printf '%s\n' "$line"
@@ -128,7 +100,7 @@ run_proofs() {
             tried=yes
             cpu_of "$pid" && count_as 'wrong programs' "$((before + cpu))"
             ;;
-        'rt: '*' proved'*)
+        'rt: '*' proved' | 'rt: '*' NOT PROVED'* | 'rt: '*' is kept: '*)
             [[ $tried ]] || { cpu_of "$pid" && count_as proofs "$((before + cpu))"; }
             ;;
         esac
@@ -168,6 +140,24 @@ add_last_line() {
     add "$1" "$good" "$bad"
 }
 
+# add_ci: counts rt ci by its last line, and as a failure each wrong program that rt could not apply or
+# read. rt ci passes all the same, and tells how many in its line 'rt: ok; ..; must-fail edits: N refused,
+# M bad; ..'.
+add_ci() {
+    local line bad=0
+    add_last_line 'rt ci'
+    while read -r line; do
+        if [[ $line =~ ^rt:\ ok.*\;\ must-fail\ edits:[^\;]*,\ ([0-9]{1,9})\ bad ]]; then
+            bad=$((10#${BASH_REMATCH[1]}))
+        fi
+    done <"$log"
+    if ((bad > 0)); then
+        printf '\n== rt ci FAILED (bad wrong programs: %d)\n' "$bad"
+    fi
+    ((failed += bad))
+    return 0
+}
+
 # add_cargo NAME: counts a part by the lines 'test result: .. N passed; M failed; ..' of cargo.
 add_cargo() {
     local line good=0 bad=0
@@ -198,28 +188,20 @@ python_tests() (
     bindings/python/build.sh && cd bindings/python && python3 -m unittest 2>&1
 )
 
+# First, so that it meets the checkout as it is.
+heading 'rt ci'
+run_proofs
+add_ci
+count_as 'the rest'
+
 heading 'this script, tried on parts that pass and fail'
 run scripts/test_gate.sh
 add_last_line 'scripts/test_gate.sh'
-
-heading 'rt fmt --check'
-run rt fmt --check
-add_status 'rt fmt --check'
 count_as 'the rest'
 
-heading 'rt ci'
-run_proofs
-add_last_line 'rt ci'
-count_as 'the rest'
-
-heading 'rt staticlib ods1'
-rm -f "$archive"
-run env TMPDIR="$rt_files" rt staticlib ods1
-if [[ ! -f $archive && $status == 0 ]]; then
-    printf '%s was not written\n' "$archive"
-    status=1
-fi
-add_status 'rt staticlib ods1'
+heading 'rt lib, in crates/ods1_c'
+run scripts/library.sh
+add_status 'rt lib'
 library=$status
 count_as builds
 
@@ -258,6 +240,7 @@ count_as tests
 
 heading "what it took, on $(nproc) cores with a load of $load before it"
 show_times
+printf '%s\n' 'Wrong programs that were tried beside the proofs count as proofs.'
 
 printf '\n%d passed, %d failed\n' "$passed" "$failed"
 ((failed == 0))

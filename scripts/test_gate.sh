@@ -1,7 +1,7 @@
 #!/usr/bin/env bash
-# Tries scripts/test.sh and .ci/run in a scratch repository, with commands that only pretend: what
-# is counted where a part passes, fails, writes nothing or counts wrongly; where rt keeps its files;
-# and what is told of the time.
+# Tries scripts/test.sh, scripts/library.sh and .ci/run in a scratch repository, with commands that only
+# pretend: what is counted where a part passes, fails, writes nothing or counts wrongly; how rt ci is
+# run; which archive is tested; and what is told of the time.
 #
 # The last line is 'N passed, M failed'.
 
@@ -12,14 +12,15 @@ scratch=$(mktemp -d) || exit 1
 trap 'rm -rf "$scratch"' EXIT
 repository=$scratch/repository
 commands=$scratch/commands
-memory=$scratch/memory
 passed=0
 failed=0
 
-mkdir -p "$repository"/{.ci,scripts,bindings/python} "$commands" "$memory"
+mkdir -p "$repository"/{.ci,scripts,bindings/python,crates/ods1_c/src} "$commands"
 cp .ci/run "$repository/.ci/run"
 cp Makefile "$repository/Makefile"
-cp scripts/test.sh "$repository/scripts/test.sh"
+cp scripts/{library,test}.sh "$repository/scripts"
+printf 'ods1_c staticlib:\nimage:\n' >"$repository/crates.txt"
+: >"$repository/crates/ods1_c/src/lib.rt"
 
 # pretend FILE: writes a command, read from standard input.
 pretend() {
@@ -40,7 +41,7 @@ END
 
 pretend "$repository/bindings/python/build.sh" <<'END'
 #!/usr/bin/env bash
-[[ -f target/staticlib/libods1.a ]] || exit 98
+[[ $(cat target/staticlib/libods1.a) == new ]] || exit 98
 exit "${PYTHON_BUILD_STATUS-0}"
 END
 
@@ -53,43 +54,34 @@ END
 
 pretend "$commands/rt" <<'END'
 #!/usr/bin/env bash
+ok='rt: ok; handles allowed: none; must-fail edits: 3 refused; every proof and must-fail edit was done in this run\n'
 case "$*" in
-'fmt --check')
-    exit "${RT_FMT_STATUS-0}"
-    ;;
 ci)
-    rm -rf target
-    find "$TMPDIR" -maxdepth 0 -printf '%p %m\n' >"$RT_FILES"
+    [[ ${PWD##*/} == repository ]] || exit 97
+    printf '%s\n' "${TMPDIR-none}" >"$RT_SEEN"
+    find . -type f -printf '%P %s\n' | sort >>"$RT_SEEN"
     if [[ ${RT_CI_BUSY-} ]]; then
         timeout "$RT_CI_BUSY" sh -c 'while :; do :; done'
-        printf 'rt: image proved (1 s)\n'
+        printf 'rt: image: trying its must-fail edits (1)\n'
+        printf '%b' "${RT_CI_PROVED-rt: image proved\n}"
         timeout "$RT_CI_BUSY" sh -c 'while :; do :; done'
-        printf 'rt: must-fail image/block_of_two: refused, as it must be (1 s)\n'
+        printf 'rt: must-fail image/block_of_two.edit: refused, as it must be: src/lib.rt:1:1: error\n'
         sleep 0.2
+        printf 'rt: image ran, and wrote what its file stdout has\n'
     fi
-    printf '%b' "${RT_CI_TEXT-rt: ok\n10 passed, 0 failed\n}"
+    printf '%b' "${RT_CI_TEXT-${ok}10 passed, 0 failed\n}"
     exit "${RT_CI_STATUS-0}"
     ;;
-'staticlib ods1')
-    find "$TMPDIR" -maxdepth 0 -printf '%p %m\n' >>"$RT_FILES"
+lib)
+    [[ $PWD == */repository/crates/ods1_c ]] || exit 97
     if [[ ${ARCHIVE-yes} == yes ]]; then
-        mkdir -p target/staticlib
-        : >target/staticlib/libods1.a
+        mkdir -p out
+        printf 'new\n' >out/libods1_c.a
     fi
-    exit "${STATICLIB_STATUS-0}"
+    exit "${RT_LIB_STATUS-0}"
     ;;
 esac
 exit 99
-END
-
-pretend "$commands/stat" <<'END'
-#!/usr/bin/env bash
-printf '%b' "${STAT_TEXT-tmpfs 1000000 4096\n}"
-END
-
-pretend "$commands/setpriv" <<'END'
-#!/usr/bin/env bash
-[[ ${SETPRIV_STATUS-0} == 0 ]] && "${@: -1}"
 END
 
 pretend "$commands/cargo" <<'END'
@@ -105,7 +97,7 @@ case "$*" in
     exit "${CARGO_TEST_STATUS-0}"
     ;;
 'test --release --offline --locked --no-fail-fast')
-    [[ -z ${ODS1_CASE-} && ${PWD##*/} == repository && -f target/staticlib/libods1.a ]] || exit 98
+    [[ -z ${ODS1_CASE-} && ${PWD##*/} == repository && $(cat target/staticlib/libods1.a) == new ]] || exit 98
     usual='test result: ok. 100 passed; 0 failed; 0 ignored; 0 measured\n'
     usual+='test result: ok. 200 passed; 0 failed; 0 ignored; 0 measured\n'
     printf '%b' "${CARGO_TEST_TEXT-$usual}"
@@ -115,10 +107,22 @@ esac
 exit 99
 END
 
-# gate [NAME=VALUE..]: runs the scratch repository's gate under these variables.
+# clean: has the scratch repository as it is before a run, with what a check kept of a crate.
+clean() {
+    rm -rf "$repository"/{target,crates/*/out}
+    mkdir -p "$repository/crates/image/out"
+    printf 'kept\n' >"$repository/crates/image/out/kept"
+}
+
+# gate [NAME=VALUE..]: runs the scratch repository's gate under these variables. With EARLIER=yes an
+# earlier run left an archive.
 gate() {
-    rm -rf "$repository/target"
-    env PATH="$commands:$PATH" ODS1_SHM="$memory" RT_FILES="$scratch/rt-files" "$@" \
+    clean
+    if [[ " $* " == *' EARLIER=yes '* ]]; then
+        mkdir -p "$repository"/{target/staticlib,crates/ods1_c/out}
+        printf 'old\n' | tee "$repository/target/staticlib/libods1.a" >"$repository/crates/ods1_c/out/libods1_c.a"
+    fi
+    env PATH="$commands:$PATH" RT_SEEN="$scratch/seen" "$@" \
         "$repository/.ci/run" >"$scratch/output" 2>"$scratch/errors"
 }
 
@@ -149,96 +153,119 @@ expect() {
         "\"$(tail -n 1 "$scratch/output")\", exit status $((got_status != 0))" "$@"
 }
 
-# expect_files WHERE [NAME=VALUE..]: runs the gate, and sees where rt kept its files, both times: in a
-# folder of its own in memory, which all may pass through and which is gone afterwards; or elsewhere.
-expect_files() {
-    local where=$1 got=elsewhere
-    shift
-    gate "$@"
-    if [[ $(sort -u "$scratch/rt-files") =~ ^"$memory"/[^/]+\ 711$ ]]; then
-        got=memory
-    fi
-    tell "files in $where, 0 left" "files in $got, $(find "$memory" -mindepth 1 | wc -l) left" "$@"
+# files: the files of the scratch repository, a line each.
+files() {
+    (cd "$repository" && find . -type f -printf '%P %s\n' | sort)
 }
 
-# expect_times: runs the gate with an rt that works for a while until it has proved a crate, and again
-# until it has tried a wrong program, and then rests; and sees that these times are told, by the clock
-# and on the processors.
+# expect_as_it_is: runs the gate, and sees that rt ci is run with its temporary files where
+# they are told to be, and on the checkout as it is: nothing is added, changed or left out before.
+expect_as_it_is() {
+    mkdir "$scratch/elsewhere"
+    gate TMPDIR="$scratch/elsewhere"
+    tell "$scratch/elsewhere"$'\n'"$as_it_was" "$(cat "$scratch/seen")" TMPDIR="$scratch/elsewhere"
+    tell '0 left' "$(find "$scratch/elsewhere" -mindepth 1 | wc -l) left" TMPDIR="$scratch/elsewhere"
+}
+
+# expect_times [NAME=VALUE..]: runs the gate with an rt that works for a while until it has proved a crate,
+# and again until it has tried a wrong program, and then rests; and sees that these times are told, by the
+# clock and on the processors.
 expect_times() {
     local row='[ ]+([0-9]+\.[0-9])[ ]+([0-9]+\.[0-9])' text
-    gate RT_CI_BUSY=0.5
-    text=$(tail -n 9 "$scratch/output")
+    gate RT_CI_BUSY=0.5 "$@"
+    text=$(tail -n 10 "$scratch/output")
     if [[ $text =~ proofs$row.*'wrong programs'$row.*builds$row.*tests$row.*'the rest'$row.*all$row ]]; then
         text=${BASH_REMATCH[*]:1}
     fi
     tell told "$(awk '
         $1 >= 0.5 && $2 > 0 && $3 >= 0.5 && $4 > 0 && $9 >= 0.2 && $11 >= $1 + $3 + $9 && $12 >= $2 + $4 { $0 = "told" }
         { print }
-    ' <<<"$text")" RT_CI_BUSY=0.5
+    ' <<<"$text")" RT_CI_BUSY=0.5 "$@"
 }
 
-# Where all is well: 2 of the gate, 1 rt fmt, 10 rt ci, 1 library, 1 cargo fmt, 300 cargo test, 50 Python.
-expect '365 passed, 0 failed' 0
-expect '364 passed, 0 failed' 0 RUSTFMT_MISSING=1
-expect '365 passed, 0 failed' 0 ODS1_CASE=5
-expect '365 passed, 0 failed' 0 RT_CI_TEXT='10 passed, 0 failed'
-expect '364 passed, 0 failed' 0 RT_CI_TEXT='1 passed, 7 failed\n09 passed, 0 failed\n'
-expect '316 passed, 0 failed' 0 PYTHON_TEXT='Ran 1 test in 0.0s\n\nOK\n'
+clean
+as_it_was=$(files)
+
+# Where all is well: 10 rt ci, 2 of the gate, 1 library, 1 cargo fmt, 300 cargo test, 50 Python.
+expect '364 passed, 0 failed' 0
+expect '363 passed, 0 failed' 0 RUSTFMT_MISSING=1
+expect '364 passed, 0 failed' 0 ODS1_CASE=5
+expect '364 passed, 0 failed' 0 RT_CI_TEXT='10 passed, 0 failed'
+expect '363 passed, 0 failed' 0 RT_CI_TEXT='1 passed, 7 failed\n09 passed, 0 failed\n'
+expect '315 passed, 0 failed' 0 PYTHON_TEXT='Ran 1 test in 0.0s\n\nOK\n'
+expect_as_it_is
 
 # One check that fails, and those after it are still counted.
-expect '364 passed, 1 failed' 1 RT_FMT_STATUS=1
-expect '364 passed, 1 failed' 1 CARGO_FMT_STATUS=1
+expect '363 passed, 1 failed' 1 CARGO_FMT_STATUS=1
 
-# rt ci: failures counted, none counted, no count, a wrong one, and one that is not the last line.
-expect '362 passed, 3 failed' 1 RT_CI_STATUS=1 RT_CI_TEXT='7 passed, 3 failed\n'
-expect '362 passed, 3 failed' 1 RT_CI_STATUS=0 RT_CI_TEXT='7 passed, 3 failed\n'
-expect '365 passed, 1 failed' 1 RT_CI_STATUS=3
-expect '355 passed, 1 failed' 1 RT_CI_STATUS=2 RT_CI_TEXT=
-expect '355 passed, 1 failed' 1 RT_CI_STATUS=0 RT_CI_TEXT=
-expect '355 passed, 1 failed' 1 RT_CI_TEXT='0 passed, 0 failed\n'
-expect '355 passed, 1 failed' 1 RT_CI_TEXT='10 passed, 0 failed\nand more\n'
-expect '355 passed, 1 failed' 1 RT_CI_TEXT='some passed, 0 failed\n'
-expect '355 passed, 1 failed' 1 RT_CI_TEXT='-10 passed, 0 failed\n'
-expect '355 passed, 1 failed' 1 RT_CI_TEXT='10 passed, 0 failed, 1 skipped\n'
-expect '355 passed, 1 failed' 1 RT_CI_TEXT='99999999999999999999 passed, 0 failed\n'
+# rt ci: failures counted, none counted, no count, a wrong one, one that is not the last line, and one of
+# some crates alone.
+expect '361 passed, 3 failed' 1 RT_CI_STATUS=1 RT_CI_TEXT='7 passed, 3 failed\n'
+expect '361 passed, 3 failed' 1 RT_CI_STATUS=0 RT_CI_TEXT='7 passed, 3 failed\n'
+expect '364 passed, 1 failed' 1 RT_CI_STATUS=3
+expect '354 passed, 1 failed' 1 RT_CI_STATUS=2 RT_CI_TEXT=
+expect '354 passed, 1 failed' 1 RT_CI_STATUS=0 RT_CI_TEXT=
+expect '354 passed, 1 failed' 1 RT_CI_TEXT='0 passed, 0 failed\n'
+expect '354 passed, 1 failed' 1 RT_CI_TEXT='10 passed, 0 failed\nand more\n'
+expect '354 passed, 1 failed' 1 RT_CI_TEXT='some passed, 0 failed\n'
+expect '354 passed, 1 failed' 1 RT_CI_TEXT='-10 passed, 0 failed\n'
+expect '354 passed, 1 failed' 1 RT_CI_TEXT='10 passed, 0 failed, 1 skipped\n'
+expect '354 passed, 1 failed' 1 RT_CI_TEXT='10 passed, 0 failed (image and the crates below alone: not the gate)\n'
+expect '354 passed, 1 failed' 1 RT_CI_TEXT='99999999999999999999 passed, 0 failed\n'
 
-# The static library: refused, or said to be there and not there. What needs it is not run.
-expect '14 passed, 3 failed' 1 STATICLIB_STATUS=1
-expect '14 passed, 3 failed' 1 STATICLIB_STATUS=1 ARCHIVE=no
-expect '14 passed, 3 failed' 1 STATICLIB_STATUS=0 ARCHIVE=no
+# A crate that is not laid out, and a repository that rt ci does not take.
+expect '363 passed, 1 failed' 1 RT_CI_STATUS=1 \
+    RT_CI_TEXT="rt: run rt fmt in the crate's folder\nrt: image NOT PROVED\nrt: FAILED: image\n9 passed, 1 failed\n"
+expect '354 passed, 1 failed' 1 RT_CI_STATUS=2 RT_CI_TEXT='0 passed, 1 failed\n'
+
+# Wrong programs that rt ci could not apply or read, and passed over.
+edits='rt: ok; handles allowed: none; must-fail edits: 3 refused'
+whole='every proof and must-fail edit was done in this run\n10 passed, 0 failed\n'
+kept='done in this run: 2 of the 5 proofs (of crates and of their tests); the others are kept from earlier runs\n'
+expect '364 passed, 2 failed' 1 RT_CI_TEXT="$edits, 2 bad; $whole"
+expect '364 passed, 1 failed' 1 RT_CI_TEXT="$edits, 1 of them only by a limit, 1 bad; $whole"
+expect '364 passed, 12 failed' 1 RT_CI_TEXT="$edits, 12 bad; ${kept}10 passed, 0 failed\n"
+expect '361 passed, 5 failed' 1 RT_CI_STATUS=1 RT_CI_TEXT="$edits, 2 bad; ${kept}7 passed, 3 failed\n"
+expect '364 passed, 0 failed' 0 RT_CI_TEXT="$edits, 0 bad; $whole"
+expect '364 passed, 0 failed' 0 RT_CI_TEXT="$edits, 1 of them only by a limit; $whole"
+expect '364 passed, 0 failed' 0 RT_CI_TEXT="rt: ok; handles allowed: none; $whole"
+
+# The static library: refused, or said to be there and not there. What needs it is not run, and an archive
+# of an earlier run is not taken for it.
+expect '13 passed, 3 failed' 1 RT_LIB_STATUS=1
+expect '13 passed, 3 failed' 1 RT_LIB_STATUS=1 ARCHIVE=no
+expect '13 passed, 3 failed' 1 RT_LIB_STATUS=0 ARCHIVE=no
+expect '13 passed, 3 failed' 1 RT_LIB_STATUS=1 EARLIER=yes
+expect '13 passed, 3 failed' 1 RT_LIB_STATUS=0 ARCHIVE=no EARLIER=yes
+expect '364 passed, 0 failed' 0 EARLIER=yes
 
 # cargo test: a failure counted, a build that fails, a crash, and runs that test nothing.
 three='test result: FAILED. 5 passed; 3 failed; 0 ignored\ntest result: ok. 4 passed; 0 failed; 0\n'
-expect '74 passed, 3 failed' 1 CARGO_TEST_STATUS=101 CARGO_TEST_TEXT="$three"
-expect '74 passed, 3 failed' 1 CARGO_TEST_STATUS=0 CARGO_TEST_TEXT="$three"
-expect '65 passed, 1 failed' 1 CARGO_TEST_STATUS=101 CARGO_TEST_TEXT=
-expect '65 passed, 1 failed' 1 CARGO_TEST_STATUS=0 CARGO_TEST_TEXT='running\n'
-expect '65 passed, 1 failed' 1 CARGO_TEST_TEXT='test result: ok. 0 passed; 0 failed; 0 ignored\n'
-expect '365 passed, 1 failed' 1 CARGO_TEST_STATUS=101
+expect '73 passed, 3 failed' 1 CARGO_TEST_STATUS=101 CARGO_TEST_TEXT="$three"
+expect '73 passed, 3 failed' 1 CARGO_TEST_STATUS=0 CARGO_TEST_TEXT="$three"
+expect '64 passed, 1 failed' 1 CARGO_TEST_STATUS=101 CARGO_TEST_TEXT=
+expect '64 passed, 1 failed' 1 CARGO_TEST_STATUS=0 CARGO_TEST_TEXT='running\n'
+expect '64 passed, 1 failed' 1 CARGO_TEST_TEXT='test result: ok. 0 passed; 0 failed; 0 ignored\n'
+expect '364 passed, 1 failed' 1 CARGO_TEST_STATUS=101
 
 # Python: failures and errors counted, a library that is not built, a crash, and a run that tests nothing.
-expect '360 passed, 5 failed' 1 PYTHON_STATUS=1 PYTHON_TEXT='Ran 50 tests in 1s\n\nFAILED (failures=3, errors=2)\n'
-expect '364 passed, 1 failed' 1 PYTHON_STATUS=1 PYTHON_TEXT='Ran 50 tests in 1s\n\nFAILED (errors=1)\n'
-expect '315 passed, 1 failed' 1 PYTHON_BUILD_STATUS=1
-expect '315 passed, 1 failed' 1 PYTHON_STATUS=1 PYTHON_TEXT='Traceback\n'
-expect '315 passed, 1 failed' 1 PYTHON_TEXT='Ran 0 tests in 0s\n\nOK\n'
-expect '365 passed, 1 failed' 1 PYTHON_STATUS=139
+expect '359 passed, 5 failed' 1 PYTHON_STATUS=1 PYTHON_TEXT='Ran 50 tests in 1s\n\nFAILED (failures=3, errors=2)\n'
+expect '363 passed, 1 failed' 1 PYTHON_STATUS=1 PYTHON_TEXT='Ran 50 tests in 1s\n\nFAILED (errors=1)\n'
+expect '314 passed, 1 failed' 1 PYTHON_BUILD_STATUS=1
+expect '314 passed, 1 failed' 1 PYTHON_STATUS=1 PYTHON_TEXT='Traceback\n'
+expect '314 passed, 1 failed' 1 PYTHON_TEXT='Ran 0 tests in 0s\n\nOK\n'
+expect '364 passed, 1 failed' 1 PYTHON_STATUS=139
 
 # This script itself fails; and everything fails at once.
-expect '364 passed, 1 failed' 1 GATE_STATUS=1 GATE_TEXT='1 passed, 1 failed\n'
-expect '0 passed, 7 failed' 1 GATE_STATUS=127 GATE_TEXT= RT_FMT_STATUS=127 RT_CI_STATUS=127 \
-    RT_CI_TEXT= STATICLIB_STATUS=127 ARCHIVE=no CARGO_FMT_STATUS=127
+expect '363 passed, 1 failed' 1 GATE_STATUS=1 GATE_TEXT='1 passed, 1 failed\n'
+expect '0 passed, 6 failed' 1 GATE_STATUS=127 GATE_TEXT= RT_CI_STATUS=127 RT_CI_TEXT= RT_LIB_STATUS=127 \
+    ARCHIVE=no CARGO_FMT_STATUS=127
 
-# rt keeps its files in memory where that can be, and else where it is told to.
-expect_files memory
-expect_files elsewhere ODS1_SHM="$scratch/nothing"
-expect_files elsewhere STAT_TEXT='ext2/ext3 1000000 4096\n'
-expect_files elsewhere STAT_TEXT='tmpfs 488281 4096\n'
-expect_files elsewhere STAT_TEXT=
-if ((EUID == 0)); then
-    expect_files elsewhere SETPRIV_STATUS=1
-fi
+# What proofs and wrong programs took, also where a crate is kept from an earlier run or is not proved.
 expect_times
+expect_times RT_CI_PROVED='rt: image: its tests are proved\n'
+expect_times RT_CI_PROVED='rt: image is kept: an earlier run on this machine proved the same files\n'
+expect_times RT_CI_PROVED='rt: image NOT PROVED: its library lists failed\n'
 
 # What the tests build with cannot be had: nothing is counted, and the gate fails.
 expect '' 1 SETUP_STATUS=1

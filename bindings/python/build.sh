@@ -8,7 +8,7 @@ archive=target/staticlib/libods1.a
 library=target/python/libods1.so
 
 if [[ ! -f $archive ]]; then
-    printf '%s is missing: run make test, or rt staticlib ods1, at the root of the repository\n' "$archive" >&2
+    printf '%s is missing: run make library at the root of the repository\n' "$archive" >&2
     exit 1
 fi
 

@@ -1,4 +1,4 @@
-//! Links the proved static library, which the kit writes below target/.
+//! Links the proved static library, which `make library` writes below target/.
 
 use std::env;
 use std::path::Path;
@@ -12,7 +12,7 @@ fn main() {
     println!("cargo:rerun-if-changed={}", archive.display());
     if !archive.is_file() {
         eprintln!(
-            "target/staticlib/libods1.a is missing: run make test, or rt staticlib ods1, \
+            "target/staticlib/libods1.a is missing: run make library \
              at the root of the repository"
         );
         exit(1);
