@@ -23,8 +23,10 @@ struct Found {
 fn listed(text: &str) -> Vec<Listed> {
     let line = |line: &str| {
         let (name, arrows) = line.split_once(':')?;
+        // The word `staticlib` may stand after the name.
+        let name = name.split_whitespace().next()?;
         Some(Listed {
-            name: name.trim().to_string(),
+            name: name.to_string(),
             arrows: arrows.split_whitespace().map(str::to_string).collect(),
         })
     };
@@ -86,9 +88,9 @@ fn read_code(text: &str, found: &mut Found) {
     }
 }
 
-/// What a text of definitions, laws or contracts leads to: `Rattle·NAME.`.
+/// What a text of definitions, laws or contracts leads to: `Rattle.NAME.`.
 fn read_references(text: &str, found: &mut Found) {
-    for part in text.split("Rattle·").skip(1) {
+    for part in text.split("Rattle.").skip(1) {
         if let Some((name, _)) = part.split_once('.') {
             found.named.insert(name.to_string());
         }
@@ -100,7 +102,10 @@ fn files_below(folder: &Path, into: &mut Vec<PathBuf>) {
         let path = entry.expect("an entry of a folder").path();
         if !path.is_dir() {
             into.push(path);
-        } else if path.file_name().is_some_and(|name| name != "must-fail") {
+        } else if path
+            .file_name()
+            .is_some_and(|name| name != "must-fail" && name != "out")
+        {
             files_below(&path, into);
         }
     }
@@ -207,7 +212,7 @@ fn a_wrong_list_is_seen() {
         ("low", "", "pub struct Number(u32);"),
         (
             "middle",
-            "use Rattle·low.specs.Low.{low}",
+            "use Rattle.low.specs.Low.{low}",
             "use low::Number;\npub struct Pair {\n    pub first: Number,\n}",
         ),
         (
@@ -228,6 +233,7 @@ fn a_wrong_list_is_seen() {
     let told = |text: &str| faults(&listed(text), &crates);
     let none: [&str; 0] = [];
     assert_eq!(told("low:\nmiddle: low\nhigh: middle\n"), none);
+    assert_eq!(told("low:\nmiddle: low\nhigh staticlib: middle\n"), none);
     assert_eq!(
         told("low:\nmiddle: low\nhigh: low middle\n"),
         none,

@@ -18,12 +18,12 @@ const MOST_BYTES: usize = 65_536;
 const HEADER_MARKS: usize = 4_096;
 const BLOCK_MARKS: usize = MOST_BYTES / 512;
 
-/// The program, which the gate has proved and built.
+/// The program, which `rt ci` has proved and built.
 fn program() -> PathBuf {
-    let path = Path::new(env!("CARGO_MANIFEST_DIR")).join("../../target/bin/judge");
+    let path = Path::new(env!("CARGO_MANIFEST_DIR")).join("../../crates/judge/out/judge");
     assert!(
         path.is_file(),
-        "target/bin/judge is missing: run make judge at the root of the repository"
+        "crates/judge/out/judge is missing: run rt ci at the root of the repository"
     );
     path
 }
