@@ -193,7 +193,7 @@ fn apply(definitions: &HashMap<String, Definition>, name: &str, given: Vec<Value
 
 /// The bytes that the definition writes down.
 fn defined(text: &str) -> Vec<u8> {
-    let volume = apply(&definitions(text), "volumeV", Vec::new()).list();
+    let volume = apply(&definitions(text), "volume_v", Vec::new()).list();
     let bytes = volume.into_iter().map(Value::number);
     bytes
         .map(|byte| u8::try_from(byte).expect("a byte"))
