@@ -66,11 +66,18 @@ fn read_code(text: &str, found: &mut Found) {
         .named
         .extend(names_before(&code, "::").map(str::to_string));
     let mut from: BTreeMap<&str, &str> = BTreeMap::new();
-    for path in code.lines().filter_map(|line| line.strip_prefix("use ")) {
+    let uses = |item: &str| item.find("\nuse ").map(|at| at + "\nuse ".len());
+    for item in code.split_inclusive(';') {
+        let path = match (item.strip_prefix("use "), uses(item)) {
+            (Some(path), _) => path,
+            (None, Some(at)) => &item[at..],
+            (None, None) => continue,
+        };
         let path = path.trim_end_matches(';');
-        if let (Some((root, _)), Some((_, item))) = (path.split_once("::"), path.rsplit_once("::"))
+        if let (Some((root, _)), Some((_, items))) = (path.split_once("::"), path.rsplit_once("::"))
         {
-            from.insert(item, root);
+            let items = items.trim_matches(['{', '}']).split(',').map(str::trim);
+            from.extend(items.map(|item| (item, root)));
         }
     }
     let mut in_type = false;
@@ -213,7 +220,7 @@ fn a_wrong_list_is_seen() {
         (
             "middle",
             "use Rattle.low.specs.Low.{low}",
-            "use low::Number;\npub struct Pair {\n    pub first: Number,\n}",
+            "#![tactic(auto)]\n\nuse low::{Number, seen};\npub struct Pair {\n    pub first: Number,\n}",
         ),
         (
             "high",
