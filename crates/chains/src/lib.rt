@@ -22,7 +22,7 @@ use volume::{Places, Slot, Volume, is_in_use, is_next, slot_at, slot_of};
 use whole::fault;
 
 // The numbers of a chain's headers and the LBNs of their slots, in the chain's order; what lies past the count says nothing.
-#[derive(Drop)]
+#[derive(Clone, Copy)]
 pub struct Members {
     pub count: usize,
     pub numbers: [u32; 256],

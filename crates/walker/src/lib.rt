@@ -14,7 +14,7 @@ use look_up::{NextRecordAnswer, next_record};
 use open_file::open_file;
 
 // A walk: the image that is read, the directory's ID, and the place of the record to go on from.
-#[derive(Drop)]
+#[derive(Clone, Copy)]
 pub struct Walker<'a> {
     pub image: &'a [u8],
     pub id: FileId,
