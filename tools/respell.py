@@ -5,10 +5,10 @@ usage: python3 tools/respell.py [--dry]     at the top of a checkout in which po
 
 port.py respells those of our names that its own rules reach. What it leaves are definitions and lemmas in lower camel
 case, as wordAt or putBits-agree. Each such word becomes snake case, word_at and put_bits-agree, wherever it stands as a
-whole word: in .antt files, in clauses and ghost use lines of .rt files, and in the lines of must-fail edits. Comments
-go along, as they name the definitions; what they quote from the papers has no such word. Functions of src/, exported C
-names, strings, inputs and outputs have no lower camel case, and stay. It stops, and writes nothing, where two names
-would fall together.
+whole word in crates/: in .antt files, in .rt files, where only clauses, ghost use lines and comments have such words,
+and in must-fail edits, where a word of the older library, as getD, goes along and is mended by hand. Functions of src/,
+exported C names, strings, inputs and outputs have no lower camel case, and stay. It stops, and writes nothing, where two
+such words would fall together, and tells where a new name meets one that is there already.
 """
 
 import os
@@ -50,7 +50,7 @@ def main(argv):
             continue
         code = re.sub(r"--.*", "", t)
         for w in set(re.findall(r"(?<![A-Za-z0-9_'.-])[a-z][a-z0-9_]*(?![A-Za-z0-9_'.-])", code)):
-            if w in made and not re.search(r"(?m)^(use|pub mod|mod) .*", w):
+            if w in made:
                 met.setdefault(w, []).append(p)
     for w, ps in sorted(met.items()):
         print(f"meets: {made[w][0]} -> {w}: {len(ps)} files, as {ps[0]}")

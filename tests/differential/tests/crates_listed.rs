@@ -77,6 +77,7 @@ fn read_code(text: &str, found: &mut Found) {
         if let (Some((root, _)), Some((_, items))) = (path.split_once("::"), path.rsplit_once("::"))
         {
             let items = items.trim_matches(['{', '}']).split(',').map(str::trim);
+            let items = items.filter(|item| !item.is_empty());
             from.extend(items.map(|item| (item, root)));
         }
     }
@@ -139,7 +140,7 @@ fn found(folder: &Path) -> Found {
 /// What is wrong with the list, for crates that were found so.
 fn faults(list: &[Listed], found: &BTreeMap<String, Found>) -> Vec<String> {
     let mut faults = Vec::new();
-    let mut below: BTreeSet<&str> = BTreeSet::from(["io", "libc"]);
+    let mut below: BTreeSet<&str> = BTreeSet::from(["io"]);
     for Listed { name, arrows } in list {
         let Some(own) = found.get(name) else {
             faults.push(format!("{name} is listed and has no folder"));
