@@ -142,15 +142,20 @@ add_last_line() {
 
 # add_ci: counts rt ci by its last line, and as a failure each wrong program that rt could not apply or
 # read. rt ci passes all the same, and tells how many in its line 'rt: ok; ..; must-fail edits: N refused,
-# M bad; ..'.
+# M bad; ..'. An rt ci that passes and has no such line has failed once: nothing is known of them.
 add_ci() {
-    local line bad=0
+    local line bad=0 told= before=$failed
     add_last_line 'rt ci'
     while read -r line; do
+        [[ $line =~ ^rt:\ ok.*\;\ must-fail\ edits:\ [0-9]+\ refused ]] && told=yes
         if [[ $line =~ ^rt:\ ok.*\;\ must-fail\ edits:[^\;]*,\ ([0-9]{1,9})\ bad ]]; then
             bad=$((10#${BASH_REMATCH[1]}))
         fi
     done <"$log"
+    if ((failed == before)) && [[ ! $told ]]; then
+        printf '\n== rt ci FAILED (it tells nothing of the wrong programs)\n'
+        ((failed += 1))
+    fi
     if ((bad > 0)); then
         printf '\n== rt ci FAILED (bad wrong programs: %d)\n' "$bad"
     fi

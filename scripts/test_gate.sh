@@ -186,12 +186,15 @@ expect_times() {
 clean
 as_it_was=$(files)
 
+# What rt ci tells of the wrong programs where all is well.
+told='rt: ok; handles allowed: none; must-fail edits: 3 refused; every proof was done in this run\n'
+
 # Where all is well: 10 rt ci, 2 of the gate, 1 library, 1 cargo fmt, 300 cargo test, 50 Python.
 expect '364 passed, 0 failed' 0
 expect '363 passed, 0 failed' 0 RUSTFMT_MISSING=1
 expect '364 passed, 0 failed' 0 ODS1_CASE=5
-expect '364 passed, 0 failed' 0 RT_CI_TEXT='10 passed, 0 failed'
-expect '363 passed, 0 failed' 0 RT_CI_TEXT='1 passed, 7 failed\n09 passed, 0 failed\n'
+expect '364 passed, 0 failed' 0 RT_CI_TEXT="${told}10 passed, 0 failed"
+expect '363 passed, 0 failed' 0 RT_CI_TEXT="${told}1 passed, 7 failed\n09 passed, 0 failed\n"
 expect '315 passed, 0 failed' 0 PYTHON_TEXT='Ran 1 test in 0.0s\n\nOK\n'
 expect_as_it_is
 
@@ -228,7 +231,11 @@ expect '364 passed, 12 failed' 1 RT_CI_TEXT="$edits, 12 bad; ${kept}10 passed, 0
 expect '361 passed, 5 failed' 1 RT_CI_STATUS=1 RT_CI_TEXT="$edits, 2 bad; ${kept}7 passed, 3 failed\n"
 expect '364 passed, 0 failed' 0 RT_CI_TEXT="$edits, 0 bad; $whole"
 expect '364 passed, 0 failed' 0 RT_CI_TEXT="$edits, 1 of them only by a limit; $whole"
-expect '364 passed, 0 failed' 0 RT_CI_TEXT="rt: ok; handles allowed: none; $whole"
+
+# An rt ci that passes and tells nothing of them.
+expect '364 passed, 1 failed' 1 RT_CI_TEXT="rt: ok; handles allowed: none; $whole"
+expect '364 passed, 1 failed' 1 RT_CI_TEXT='10 passed, 0 failed\n'
+expect '364 passed, 1 failed' 1 RT_CI_TEXT="rt: must-fail edits: 3 refused; $whole"
 
 # The static library: refused, or said to be there and not there. What needs it is not run, and an archive
 # of an earlier run is not taken for it.
