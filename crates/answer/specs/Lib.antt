@@ -2,3 +2,4 @@ pub mod Refusal
 pub mod Outcome
 pub mod Answers
 pub mod Words
+pub mod Values

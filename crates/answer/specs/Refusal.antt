@@ -1,5 +1,5 @@
 -- The number, the place and the value of each refusal (01, Answer numbers).
-use Rattle.std.specs.Prelude.{ℕ}
+use Rattle.std.specs.Prelude.{ℕ, List, codes}
 use Rattle.answer.specs.declared.refusal.Refusal.{Refusal}
 use Rattle.answer.specs.declared.refusal.Refusal.TheVariants.{Size, Home, Geometry, Index, Storage, Relvol, Number, Header, Sequence, Segment}
 use Rattle.answer.specs.declared.refusal.Refusal.TheVariants.{Locked, Chain, Vbn, Name, Absent, Work, Files, Links, Twice, Badhome, Map}
@@ -71,3 +71,34 @@ place_of Room = 0
 -- 01, Answer numbers: "every refusal has value 0 or an empty part".
 abbrev pub value_of : Refusal → ℕ
 value_of r = 0
+
+-- 01, Answer numbers: the name of each refusal in the table, as text in capitals.
+abbrev pub name_of : Refusal → List ℕ
+name_of Size = codes "SIZE"
+name_of Home = codes "HOME"
+name_of Geometry = codes "GEOMETRY"
+name_of Index = codes "INDEX"
+name_of Storage = codes "STORAGE"
+name_of Relvol = codes "RELVOL"
+name_of Number = codes "NUMBER"
+name_of (Header t) = codes "HEADER"
+name_of Sequence = codes "SEQUENCE"
+name_of Segment = codes "SEGMENT"
+name_of Locked = codes "LOCKED"
+name_of Chain = codes "CHAIN"
+name_of Vbn = codes "VBN"
+name_of Name = codes "NAME"
+name_of Absent = codes "ABSENT"
+name_of Work = codes "WORK"
+name_of (Files n t) = codes "FILES"
+name_of (Links n) = codes "LINKS"
+name_of (Twice l) = codes "TWICE"
+name_of (Badhome l) = codes "BADHOME"
+name_of (Map j) = codes "MAP"
+name_of Known = codes "KNOWN"
+name_of Fixed = codes "FIXED"
+name_of Count = codes "COUNT"
+name_of Full = codes "FULL"
+name_of Run = codes "RUN"
+name_of Nonumber = codes "NONUMBER"
+name_of Room = codes "ROOM"

@@ -1,7 +1,9 @@
 // The refusals of 01's table of answer numbers, and the number, place and value of each.
 
-ghost use Rattle.std.specs.Prelude.{◌≡◌};
-ghost use Rattle.answer.specs.Refusal.{number_of, place_of, value_of};
+ghost use Rattle.std.specs.Prelude.{◌≡◌, Some};
+ghost use Rattle.answer.specs.Refusal.{name_of, number_of, place_of, value_of};
+
+use std::fmt;
 
 // Why a call is refused: a variant for each refusal of the table, in its order.
 #[derive(Clone, Copy)]
@@ -41,6 +43,47 @@ pub enum Refusal {
     Nonumber,
     Room,
 }
+
+// A refusal is shown by its name in the table.
+impl fmt::Display for Refusal {
+    ghost output = { λ r. Some (name_of r) };
+
+    fn fmt<W: fmt::Write>(&self, f: &mut fmt::Formatter<W>) -> fmt::Result {
+        f.write_str(match self {
+            Refusal::Size => "SIZE",
+            Refusal::Home => "HOME",
+            Refusal::Geometry => "GEOMETRY",
+            Refusal::Index => "INDEX",
+            Refusal::Storage => "STORAGE",
+            Refusal::Relvol => "RELVOL",
+            Refusal::Number => "NUMBER",
+            Refusal::Header(_) => "HEADER",
+            Refusal::Sequence => "SEQUENCE",
+            Refusal::Segment => "SEGMENT",
+            Refusal::Locked => "LOCKED",
+            Refusal::Chain => "CHAIN",
+            Refusal::Vbn => "VBN",
+            Refusal::Name => "NAME",
+            Refusal::Absent => "ABSENT",
+            Refusal::Work => "WORK",
+            Refusal::Files(_, _) => "FILES",
+            Refusal::Links(_) => "LINKS",
+            Refusal::Twice(_) => "TWICE",
+            Refusal::Badhome(_) => "BADHOME",
+            Refusal::Map(_) => "MAP",
+            Refusal::Known => "KNOWN",
+            Refusal::Fixed => "FIXED",
+            Refusal::Count => "COUNT",
+            Refusal::Full => "FULL",
+            Refusal::Run => "RUN",
+            Refusal::Nonumber => "NONUMBER",
+            Refusal::Room => "ROOM",
+        })
+    }
+}
+
+// What a call answers: a value, which DONE has, or the refusal. A row of tests answers `()` where each is met.
+pub type Answer<T> = Result<T, Refusal>;
 
 // A refusal's number, place and value, in this order.
 #[derive(Clone, Copy)]

@@ -30,3 +30,12 @@ pub struct Name {
     pub typ: u16,
     pub version: u16,
 }
+
+// Blocks in a row.
+#[derive(Clone, Copy)]
+pub struct Run {
+    // The first of them.
+    pub lbn: Lbn,
+    // How many they are.
+    pub count: u32,
+}

@@ -1,38 +1,28 @@
 -- The answer words of the shapes that several calls share.
-use Rattle.std.specs.Prelude.{ℕ, List, [], ◌∷◌}
-use Rattle.answer.specs.Words.{done_words, refused_words}
-use Rattle.answer.specs.declared.answers.LbnAnswer.{LbnAnswer}
-use Rattle.answer.specs.declared.answers.LbnAnswer.TheVariants as lbns
-use Rattle.answer.specs.declared.answers.IdAnswer.{IdAnswer}
-use Rattle.answer.specs.declared.answers.IdAnswer.TheVariants as ids
-use Rattle.answer.specs.declared.answers.RunAnswer.{RunAnswer}
-use Rattle.answer.specs.declared.answers.RunAnswer.TheVariants as runs
-use Rattle.answer.specs.declared.answers.CountAnswer.{CountAnswer}
-use Rattle.answer.specs.declared.answers.CountAnswer.TheVariants as counts
-use Rattle.answer.specs.declared.answers.BareAnswer.{BareAnswer}
-use Rattle.answer.specs.declared.answers.BareAnswer.TheVariants as bare
+use Rattle.answer.specs.declared.types.Lbn.{Lbn}
+use Rattle.answer.specs.declared.types.FileId.{FileId}
+use Rattle.answer.specs.declared.types.Run.{Run}
+use Rattle.answer.specs.Outcome.{Outcome, Answer}
+use Rattle.answer.specs.Values.{lbn_value, id_value, run_value, count_value, bare_value}
+use Rattle.answer.specs.Words.{words_of}
+use Rattle.std.specs.Prelude.{ℕ, List}
 
 -- 01, Answer numbers: DONE has as value "the home LBN (open volume)", the "LBN (map)", the "first new LBN (extend)".
-abbrev pub lbn_words : LbnAnswer → List ℕ
-lbn_words (lbns.Done lbn) = done_words (lbn.0 ∷ [])
-lbn_words (lbns.Refused r) = refused_words r
+abbrev pub lbn_words : Answer Lbn → List ℕ
+lbn_words = words_of lbn_value
 
 -- 01, Answer numbers: DONE has as value the "ID (look-up, create)".
-abbrev pub id_words : IdAnswer → List ℕ
-id_words (ids.Done id) = done_words (id.number ∷ id.sequence ∷ id.volume ∷ [])
-id_words (ids.Refused r) = refused_words r
+abbrev pub id_words : Answer FileId → List ℕ
+id_words = words_of id_value
 
 -- The first LBN, and how many blocks there are. No call of 01 has this value.
-abbrev pub run_words : RunAnswer → List ℕ
-run_words (runs.Done lbn count) = done_words (lbn.0 ∷ count ∷ [])
-run_words (runs.Refused r) = refused_words r
+abbrev pub run_words : Answer Run → List ℕ
+run_words = words_of run_value
 
 -- 01, Answer numbers: DONE has as value the "block count (open file)", the "text length".
-abbrev pub count_words : CountAnswer → List ℕ
-count_words (counts.Done count) = done_words (count ∷ [])
-count_words (counts.Refused r) = refused_words r
+abbrev pub count_words : Answer ℕ → List ℕ
+count_words = words_of count_value
 
 -- 01, Answer numbers: DONE has as value "0 for delete".
-abbrev pub bare_words : BareAnswer → List ℕ
-bare_words bare.Done = done_words (0 ∷ [])
-bare_words (bare.Refused r) = refused_words r
+abbrev pub bare_words : Outcome → List ℕ
+bare_words = words_of bare_value

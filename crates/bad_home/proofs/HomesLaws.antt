@@ -1,4 +1,5 @@
 -- BADHOME by the marks: the blocks of file 3 are told apart by a second mark.
+use Rattle.std.specs.Prelude.{Ok}
 use mathlib.Core.Path.{◌≡◌, refl, ap, ◌∙◌}
 use mathlib.Core.Bool.{not}
 use mathlib.Core.List.{List, ◌++◌}
@@ -12,7 +13,6 @@ use Rattle.lists.specs.First.{first}
 use Rattle.lists.proofs.FirstLaws.{first-same}
 use Rattle.lists.specs.Counts.{count, In}
 use Rattle.lists.proofs.CountLaws.{count-append}
-use Rattle.answer.specs.declared.outcome.Outcome.TheVariants.{Passed}
 use Rattle.answer.specs.Outcome.{unless}
 use Rattle.home.specs.Home.{blocks, position, home_index}
 use Rattle.home.proofs.HomeLaws.{position-below}
@@ -66,6 +66,6 @@ module _ (image area : List ℕ) (o : Opens image) (once : (j : ℕ) → j < blo
       at j l (no f) = omega (arith, both j, once j l)
 
 -- With the home at the first position none is passed over.
-pub bad-home-none : (image : List ℕ) → home_index image ≡ 0 → bad_home image ≡ Passed
+pub bad-home-none : (image : List ℕ) → home_index image ≡ 0 → bad_home image ≡ Ok tt
 unfolding bad_home bad_home_index first unless
 bad-home-none image z = rw z refl

@@ -1,4 +1,5 @@
 -- A walk over the headers of file 3 that raises the marks of their blocks.
+use Rattle.std.specs.Prelude.{Ok}
 use mathlib.Core.Path.{◌≡◌, refl, sym, ap, ◌∙◌}
 use mathlib.Core.Bool.{true, and-eq-true_iff}
 use mathlib.Core.List.{List}
@@ -7,7 +8,6 @@ use native.Mathlib.Omega.{arith}
 use borrow.Author.Tests.{le-leb}
 use lib.ListN.{length, take}
 use lib.Seq.{take-length}
-use Rattle.answer.specs.declared.outcome.Outcome.TheVariants.{Passed}
 use Rattle.header.specs.Fields.{m_efnu}
 use Rattle.pointers.specs.Pointers.{blocks_of}
 use Rattle.volume.specs.Volume.{slots, has_slot, header, in_use, is_number}
@@ -46,9 +46,6 @@ module _ (image area₀ area h : List ℕ) (r : Raised image area₀ area h) whe
     marks = e ∙ with-own;
   }
 
-  pub raised-longer : (new : List ℕ) → new ≡ raised_by area (blocks_of h) → length new ≡ length area₀
-  raised-longer new e = ap length e ∙ raised_by-length area (blocks_of h) ∙ raised_long
-
   pub raised-end : m_efnu h ≡ 0 → raised_by area (blocks_of h) ≡ raised_by area₀ (file_blocks image 3)
   raised-end e =
       with-own
@@ -60,7 +57,7 @@ module _ (image area₀ area h : List ℕ) (r : Raised image area₀ area h) whe
   raised-used = ((and-eq-true_iff (in_use image r.walk.number) (has_slot image r.walk.number)).0 r.walk.used).0
 
 -- File 3 on a volume that opens and passes FILES.
-module _ (image : List ℕ) (o : open_volume image ≡ Passed) (f : files image ≡ Passed) where
+module _ (image : List ℕ) (o : open_volume image ≡ Ok tt) (f : files image ≡ Ok tt) where
   pub three-used : in_use image 3 ≡ true
   three-used = ((passes image o f).known 3 (omega arith) (omega arith)).used
 

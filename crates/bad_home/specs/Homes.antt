@@ -2,8 +2,7 @@
 use Rattle.std.specs.Prelude.{Bool, not, List, ℕ, eqb}
 use Rattle.lists.specs.First.{first}
 use Rattle.answer.specs.declared.refusal.Refusal.TheVariants as refusal
-use Rattle.answer.specs.declared.outcome.Outcome.{Outcome}
-use Rattle.answer.specs.Outcome.{unless}
+use Rattle.answer.specs.Outcome.{unless, Outcome}
 use Rattle.home.specs.Home.{position, home_index}
 use Rattle.chains.specs.Chains.{file_blocks}
 use Rattle.lists.specs.Counts.{count}

@@ -1,4 +1,5 @@
 -- Laws of chains: where one ends and how it goes on, and a walk over a chain's headers.
+use Rattle.std.specs.Prelude.{Some, None, Option, Ok}
 use mathlib.Core.Path.{◌≡◌, refl, sym, ap, subst, ◌∙◌}
 use mathlib.Core.Bool.{Bool, true, false, cond, ◌&&◌, and-eq-true_iff}
 use mathlib.Core.List.{List, [], ◌∷◌, ◌++◌, append-nil, append_assoc}
@@ -10,13 +11,14 @@ use lib.Dec.{eqb}
 use lib.ListN.{length, get_or, take, length-append, get_or-append}
 use lib.Seq.{get_or-append-add, take-append_seam, take-append-add}
 use Rattle.header.specs.Fields.{segment, m_efnu}
-use Rattle.pointers.specs.Pointers.{blocks_of}
-use Rattle.volume.specs.Volume.{header, fault_of, is_number}
+use Rattle.pointers.specs.Pointers.{Fits, blocks_of}
+use Rattle.image.specs.Blocks.{block}
+use Rattle.volume.specs.Volume.{slot, header, fault_of, is_number}
+use Rattle.volume.specs.Opening.{open_volume}
 use Rattle.chains.specs.Chains.{good_link, NextHeader, chain, chain_of, good_link_of, good_chain, IsFirst, file_blocks, chain_blocks}
 use Rattle.pointers.specs.Pointers.{flat}
 use Rattle.lists.specs.Lists.{every}
-use Rattle.chains.specs.declared.Chain.{Chain}
-use Rattle.chains.specs.declared.Chain.TheVariants.{Good, Bad}
+use Rattle.chains.proofs.NumberLaws.{number_fits}
 use Rattle.chains.proofs.LinkLaws.{link-end, good-links}
 
 module _ (hdr : ℕ → List ℕ) where
@@ -87,6 +89,11 @@ walk_start image n first = record {
   blocks = rw first.2;
 }
 
+-- A walk begins at the first header, which lies in its slot.
+pub walk_begins : (image : List ℕ) (n lbn : ℕ) → IsFirst image n → lbn ≡ slot image n → Walk image n (block image lbn) 0
+unfolding header
+walk_begins image n lbn first lies = rw lies (walk_start image n first)
+
 -- The same walk, its number of blocks written otherwise.
 pub walk_same : (image : List ℕ) (n : ℕ) (h : List ℕ) (d e : ℕ) → Walk image n h d → d ≡ e → Walk image n h e
 walk_same image n h d e w q = subst (Walk image n h) q w
@@ -128,6 +135,11 @@ module _ (image : List ℕ) (n : ℕ) (h : List ℕ) (d : ℕ) (w : Walk image n
       rw (walk_split, ← w.count)
       (take-append-add w.past (blocks_of h ++ after) (length (blocks_of h))
       ∙ rw (take-append_seam (blocks_of h) after, take-append_seam w.past (blocks_of h ++ after)))
+
+  -- The header at hand has its pointers in it.
+  pub walk-fits : open_volume image ≡ Ok tt → Fits h
+  unfolding header
+  walk-fits o = rw w.is at (number_fits image w.number w.used o w.whole)
 
   -- A bad link breaks the chain, and in a good chain the link is good.
   pub walk-bad : good_link image h ≡ false → good_chain image n ≡ false
@@ -181,20 +193,27 @@ module _ (image : List ℕ) (n : ℕ) (h : List ℕ) (d : ℕ) (w : Walk image n
 
 -- What the walk over a whole chain comes to.
 module _ (image : List ℕ) (n : ℕ) where
-  pub blocks-good : (count : ℕ) → good_chain image n ≡ true → length (file_blocks image n) ≡ count → chain_blocks image n ≡ Good count
+  pub blocks-good : (count : ℕ) → good_chain image n ≡ true → length (file_blocks image n) ≡ count → chain_blocks image n ≡ Some count
   unfolding chain_blocks
   blocks-good count g e = rw (g, e)
 
-  pub blocks-bad : good_chain image n ≡ false → chain_blocks image n ≡ Bad
+  pub blocks-bad : good_chain image n ≡ false → chain_blocks image n ≡ None
   unfolding chain_blocks
   blocks-bad g = rw g
 
--- What is known of a file by what the walk over its chain came to.
-abbrev pub Counted : List ℕ → ℕ → Chain → Type 0
-Counted image n (Good count) = (good_chain image n ≡ true) × (count ≡ length (file_blocks image n))
-Counted image n Bad = good_chain image n ≡ false
+-- A walk that came to a header without M.EFNU has counted the file's blocks, and one that came to a bad link has none to tell.
+pub walk_counts : (image : List ℕ) (n : ℕ) (h : List ℕ) (d count : ℕ) → Walk image n h d → m_efnu h ≡ 0 → count ≡ d + length (blocks_of h) → Some count ≡ chain_blocks image n
+walk_counts image n h d count w e q = sym (blocks-good image n count (walk-end-good image n h d w e) (walk-end-length image n h d w e ∙ sym q))
 
-pub counted : (image : List ℕ) (n : ℕ) (c : Chain) → chain_blocks image n ≡ c → Counted image n c
+pub walk_breaks : (image : List ℕ) (n : ℕ) (h : List ℕ) (d : ℕ) → Walk image n h d → good_link image h ≡ false → None ≡ chain_blocks image n
+walk_breaks image n h d w b = sym (blocks-bad image n (walk-bad image n h d w b))
+
+-- What is known of a file by what the walk over its chain came to.
+abbrev pub Counted : List ℕ → ℕ → Option ℕ → Type 0
+Counted image n (Some count) = (good_chain image n ≡ true) × (count ≡ length (file_blocks image n))
+Counted image n None = good_chain image n ≡ false
+
+pub counted : (image : List ℕ) (n : ℕ) (c : Option ℕ) → chain_blocks image n ≡ c → Counted image n c
 counted image n c e = subst (Counted image n) e (go (good_chain image n) refl)
   where
     go : (t : Bool) → good_chain image n ≡ t → Counted image n (chain_blocks image n)

@@ -1,4 +1,5 @@
 -- Laws of links: what a good link says, and where the link of a header leads.
+use Rattle.std.specs.Prelude.{Some, None, Option, Ok}
 use mathlib.Core.Path.{◌≡◌, refl, sym, ap, subst, ◌∙◌}
 use mathlib.Core.Bool.{Bool, true, false, ◌&&◌, and-eq-true_iff}
 use mathlib.Core.List.{List}
@@ -6,19 +7,21 @@ use Prim.Native.Nat.{ℕ, ◌+◌}
 use native.Mathlib.Decide.{ℕ_discrete}
 use borrow.Author.Tests.{eq-eqb, ne_eqb, eqb-true}
 use lib.Dec.{eqb}
+use lib.ListN.{length}
 use Rattle.image.specs.Words.{Bytes}
 use Rattle.image.specs.Blocks.{block}
 use Rattle.answer.specs.declared.types.Lbn.{Lbn}
 use Rattle.header.specs.Fields.{h_fseq, segment, m_efnu, m_efsq}
 use Rattle.whole.specs.Whole.{fault}
-use Rattle.volume.specs.declared.Slot.{Slot}
-use Rattle.volume.specs.declared.Slot.TheVariants.{At, Missing}
 use Rattle.home.specs.Home.{blocks}
-use Rattle.volume.specs.Volume.{follows, slot, header, fault_of, is_number}
+use Rattle.volume.specs.declared.Volume.{Volume}
+use Rattle.volume.specs.Volume.{follows, slot, header, fault_of, is_number, volume_of}
+use Rattle.volume.specs.Opening.{open_volume}
+use Rattle.volume.proofs.VolumeLaws.{says}
 use Rattle.chains.specs.declared.Link.{Link}
 use Rattle.chains.specs.declared.Link.TheVariants.{End, To, Bad}
 use Rattle.chains.specs.Chains.{slot_in_use, links_on, good_link, link_from, NextHeader}
-use Rattle.chains.proofs.NumberLaws.{segment-most}
+use Rattle.chains.proofs.NumberLaws.{segment-most, number-length}
 
 -- What M.EFNU of header h names, where it names what it should.
 pub record Linked (image h : List ℕ) : Type 0 where
@@ -81,17 +84,35 @@ module _ (image h : List ℕ) where
   link-is-bad ne t = rw (ne_eqb (m_efnu h) 0 ne, t)
 
 -- What is known of number n by the slot that was found for it.
-abbrev pub Found : List ℕ → ℕ → Slot → Type 0
-Found image n (At lbn) = (is_number image n ≡ true) × (lbn.0 ≡ slot image n)
-Found image n Missing = is_number image n ≡ false
+abbrev pub Found : List ℕ → ℕ → Option Lbn → Type 0
+Found image n (Some lbn) = (is_number image n ≡ true) × (lbn.0 ≡ slot image n)
+Found image n None = is_number image n ≡ false
 
-pub slot-found : (image : List ℕ) (n : ℕ) (s : Slot) → slot_in_use image n ≡ s → Found image n s
+pub slot-found : (image : List ℕ) (n : ℕ) (s : Option Lbn) → slot_in_use image n ≡ s → Found image n s
 unfolding slot_in_use
 slot-found image n s e = subst (Found image n) e (go (is_number image n) refl)
   where
     go : (t : Bool) → is_number image n ≡ t → Found image n (slot_in_use image n)
     go true q = rw q (q, refl)
     go false q = rw q q
+
+-- What is known of number n where a slot was found for it at an LBN, on a volume that opens.
+pub record Lies (image : List ℕ) (n : ℕ) (lbn : Lbn) : Type 0 where
+  pub number : is_number image n ≡ true
+  pub at : lbn.0 ≡ slot image n
+  pub is : block image lbn.0 ≡ header image n
+  pub long : length (block image lbn.0) ≡ 512
+
+pub slot-lies : (image : List ℕ) (n m : ℕ) (lbn : Lbn) → open_volume image ≡ Ok tt → slot_in_use image m ≡ Some lbn → m ≡ n → Lies image n lbn
+unfolding header
+slot-lies image n m lbn o e q =
+    let found : Found image n (Some lbn) = slot-found image n (Some lbn) (rw q at e) in
+    record { number = found.0; at = found.1; is = ap (block image) found.1; long = rw found.1 (number-length image n found.0 o) }
+
+-- The tests of the block there, where n is what M.EFNU of header h names.
+pub lies-tests : (image h : List ℕ) (v : Volume) (lbn : Lbn) → Lies image (m_efnu h) lbn → v ≡ volume_of image
+    → links_on image h ≡ follows v.blocks h (block image lbn.0)
+lies-tests image h v lbn l e = rw (l.is, (says image v e).blocks) (links-number image h l.number)
 
 -- What is known of header h by where its link leads.
 pub record LeadsTo (image h : List ℕ) (lbn : ℕ) : Type 0 where

@@ -8,6 +8,7 @@ use native.Mathlib.Omega.{arith}
 use lib.ListN.{length, get_or, take, set, length-set}
 use lib.Seq.{get_or-take, take-suc-set, length-take-le}
 use Rattle.image.specs.Words.{Bytes}
+use Rattle.image.specs.Blocks.{block}
 use Rattle.header.specs.Fields.{segment, m_efnu}
 use Rattle.volume.specs.Volume.{slot, header, is_number}
 use Rattle.chains.specs.Chains.{chain, chain_of, good_link_of, good_chain, IsFirst, last_number, slots_of}
@@ -57,6 +58,7 @@ pub record Gathers (image : List ℕ) (n : ℕ) (numbers slots : List ℕ) (numb
   pub used : is_number image number ≡ true
   pub lies : at ≡ slot image number
   pub place : segment (header image number) ≡ count
+  pub room : count ≤ 255
   pub links : every (good_link_of image) (chain (header image) (256 - count) number) ≡ true
   pub rooms : length numbers ≡ 256
   pub spots : length slots ≡ 256
@@ -70,6 +72,7 @@ gathers-start image n at numbers slots first good lies rooms spots = record {
   used = first.0;
   lies = lies;
   place = first.2;
+  room = omega arith;
   links = good;
   rooms = rooms;
   spots = spots;
@@ -77,16 +80,12 @@ gathers-start image n at numbers slots first good lies rooms spots = record {
   kept = refl;
 }
 
-module _ (image : List ℕ) (n : ℕ) (numbers slots : List ℕ) (number at count : ℕ) (g : Gathers image n numbers slots number at count) (bytes : Bytes image) where
+module _ (image : List ℕ) (n : ℕ) (numbers slots : List ℕ) (number at count : ℕ) (g : Gathers image n numbers slots number at count) where
   abbrev h : List ℕ
   h = header image number
 
-  -- There is room for one more.
-  pub gathers-room : count ≤ 255
-  gathers-room = rw (← g.place) (segment-most image number bytes)
-
   some : 256 - count ≡ 255 - count + 1
-  some = omega (arith, gathers-room)
+  some = omega (arith, g.room)
 
   left : every (good_link_of image) (chain (header image) (255 - count + 1) number) ≡ true
   left = rw (← some) g.links
@@ -96,57 +95,71 @@ module _ (image : List ℕ) (n : ℕ) (numbers slots : List ℕ) (number at coun
 
   -- The members with the one at hand.
   more_numbers : take (count + 1) (set numbers count number) ≡ take count numbers ++ (number ∷ [])
-  more_numbers = rw (add-one count) (take-suc-set numbers count number (omega (arith, g.rooms, gathers-room)))
+  more_numbers = rw (add-one count) (take-suc-set numbers count number (omega (arith, g.rooms, g.room)))
 
   more-slots : take (count + 1) (set slots count at) ≡ slots_of image (take (count + 1) (set numbers count number))
   more-slots =
-      rw (add-one count) (take-suc-set slots count at (omega (arith, g.spots, gathers-room)))
+      rw (add-one count) (take-suc-set slots count at (omega (arith, g.spots, g.room)))
       ∙ ap₂ (λ (l : List ℕ) (k : ℕ). l ++ (k ∷ [])) g.kept g.lies
       ∙ ap (λ (l : List ℕ). slots_of image (take count numbers) ++ l) (sym (slots_of-one image number))
       ∙ sym (slots_of-append image (take count numbers) (number ∷ []))
       ∙ ap (slots_of image) (sym more_numbers)
 
+  -- The M.EFNU that is read at the LBN is that of the header at hand.
+  named : (next : ℕ) → next ≡ m_efnu (block image at) → next ≡ m_efnu h
+  unfolding header
+  named next e = e ∙ ap (λ (l : ℕ). m_efnu (block image l)) g.lies
+
   -- Without M.EFNU the header at hand is the last.
-  pub gathers-end : m_efnu h ≡ 0 → Lists image n (record { count = count + 1; numbers = set numbers count number; slots = set slots count at })
-  gathers-end e =
-      let all = more_numbers ∙ sym (here ∙ ap (λ (l : List ℕ). take count numbers ++ l) (chain-end (header image) (255 - count) number e)) in
+  pub gathers-end : (next : ℕ) → next ≡ m_efnu (block image at) → next ≡ 0
+      → Lists image n (record { count = count + 1; numbers = set numbers count number; slots = set slots count at })
+  gathers-end next e z =
+      let all = more_numbers ∙ sym (here ∙ ap (λ (l : List ℕ). take count numbers ++ l) (chain-end (header image) (255 - count) number (sym (named next e) ∙ z))) in
       record {
         least = omega arith;
-        most = omega (arith, gathers-room);
+        most = omega (arith, g.room);
         long =
             ap length (sym all)
-            ∙ length-take-le (count + 1) (set numbers count number) (omega (arith, length-set numbers count number, g.rooms, gathers-room));
+            ∙ length-take-le (count + 1) (set numbers count number) (omega (arith, length-set numbers count number, g.rooms, g.room));
         numbers = all;
         slots = more-slots ∙ ap (slots_of image) all;
       }
 
-  module _ (ne : m_efnu h ≡ 0 → ⊥) where
+  module _ (next : ℕ) (e : next ≡ m_efnu (block image at)) (ne : next ≡ 0 → ⊥) where
+    some-link : m_efnu h ≡ 0 → ⊥
+    some-link z = ne (named next e ∙ z)
+
     both : (good_link_of image number ≡ true) × (every (good_link_of image) (chain (header image) (255 - count) (m_efnu h)) ≡ true)
     both =
         (and-eq-true_iff (good_link_of image number) (every (good_link_of image) (chain (header image) (255 - count) (m_efnu h)))).0
-        (sym (every_more (header image) (good_link_of image) (255 - count) number ne) ∙ left)
+        (sym (every_more (header image) (good_link_of image) (255 - count) number some-link) ∙ left)
 
-    -- What M.EFNU names.
-    pub gathers-linked : Linked image h
+    linked : Linked image h
     unfolding good_link_of
-    gathers-linked = good-links image h ne both.0
+    linked = good-links image h some-link both.0
+
+    -- M.EFNU names a number in use with a slot.
+    pub gathers-number : is_number image next ≡ true
+    gathers-number = rw (named next e) linked.number
 
     -- With it the walk comes to the header that it names.
-    pub gathers-next : (next : ℕ) → next ≡ slot image (m_efnu h)
-        → Gathers image n (set numbers count number) (set slots count at) (m_efnu h) next (count + 1)
-    gathers-next next lies =
-        let e : 255 - count ≡ 256 - (count + 1) = omega arith in
+    pub gathers-next : Bytes image → (on : ℕ) → on ≡ slot image next → Gathers image n (set numbers count number) (set slots count at) next on (count + 1)
+    gathers-next bytes on lies =
+        let f : 255 - count ≡ 256 - (count + 1) = omega arith in
+        let q = named next e in
+        let place = linked.next ∙ ap (λ (k : ℕ). k + 1) g.place in
         record {
-          used = gathers-linked.number;
+          used = gathers-number;
           lies = lies;
-          place = gathers-linked.next ∙ ap (λ (k : ℕ). k + 1) g.place;
-          links = rw (← e) both.1;
+          place = rw q place;
+          room = omega (arith, place, segment-most image (m_efnu h) bytes);
+          links = rw (q, ← f) both.1;
           rooms = length-set numbers count number ∙ g.rooms;
           spots = length-set slots count at ∙ g.spots;
           seen =
-              rw (← e, more_numbers)
+              rw (q, ← f, more_numbers)
               (here
-              ∙ ap (λ (l : List ℕ). take count numbers ++ l) (chain_more (header image) (255 - count) number ne)
+              ∙ ap (λ (l : List ℕ). take count numbers ++ l) (chain_more (header image) (255 - count) number some-link)
               ∙ sym (append_assoc (take count numbers) (number ∷ []) (chain (header image) (255 - count) (m_efnu h))));
           kept = more-slots;
         }

@@ -1,4 +1,5 @@
 -- Laws of the headers of numbers that are in use and have a slot, on a volume that opens.
+use Rattle.std.specs.Prelude.{Ok}
 use mathlib.Core.Path.{◌≡◌}
 use mathlib.Core.Bool.{true, ◌&&◌, and-eq-true_iff}
 use mathlib.Core.List.{List}
@@ -10,7 +11,6 @@ use lib.ListN.{length}
 use Rattle.image.specs.Words.{Bytes}
 use Rattle.image.specs.Bits.{bit_at}
 use Rattle.image.proofs.BlockLaws.{block-bytes}
-use Rattle.answer.specs.declared.outcome.Outcome.TheVariants.{Passed}
 use Rattle.header.specs.Fields.{map_area, segment}
 use Rattle.pointers.specs.Pointers.{Fits}
 use Rattle.whole.proofs.WholeLaws.{whole-fits}
@@ -42,9 +42,9 @@ module _ (image : List ℕ) (n : ℕ) (h : is_number image n ≡ true) where
   unfolding has_slot
   number-high = leb-true n (slots image) both.1
 
-  pub number-length : open_volume image ≡ Passed → length (header image n) ≡ 512
+  pub number-length : open_volume image ≡ Ok tt → length (header image n) ≡ 512
   number-length o = header-length (opens image o) n number-low number-high
 
-  pub number_fits : open_volume image ≡ Passed → fault_of image n ≡ 0 → Fits (header image n)
+  pub number_fits : open_volume image ≡ Ok tt → fault_of image n ≡ 0 → Fits (header image n)
   unfolding fault_of
   number_fits o w = whole-fits (blocks image) n (header image n) (number-length o) w

@@ -1,20 +1,17 @@
 -- The chain of a file's headers, and the file's blocks.
-use Rattle.std.specs.Prelude.{◌≡◌, Bool, true, cond, ◌&&◌, ◌||◌, List, [], ◌∷◌, ℕ, zero, suc, ◌+◌, ◌≤◌, eqb, length}
+use Rattle.answer.specs.declared.types.Lbn.{Lbn}
+use Rattle.std.specs.Prelude.{◌≡◌, Bool, true, cond, ◌&&◌, ◌||◌, List, [], ◌∷◌, ℕ, zero, suc, ◌+◌, ◌≤◌, eqb, length, Some, None, Option}
 use Rattle.lists.specs.Lists.{every, last_of}
 use Rattle.header.specs.Fields.{segment, m_efnu}
 use Rattle.pointers.specs.Pointers.{flat}
 use Rattle.home.specs.Home.{blocks}
-use Rattle.volume.specs.declared.Slot.{Slot}
-use Rattle.volume.specs.declared.Slot.TheVariants as slots
 use Rattle.volume.specs.Volume.{follows, slot, header, fault_of, is_number}
 use Rattle.chains.specs.declared.Link.{Link}
 use Rattle.chains.specs.declared.Link.TheVariants as links
-use Rattle.chains.specs.declared.Chain.{Chain}
-use Rattle.chains.specs.declared.Chain.TheVariants as chains
 
 -- 01, The header: "a number in use with a slot". The slot of n, if n is such a number.
-unfoldable pub slot_in_use : List ℕ → ℕ → Slot
-slot_in_use image n = cond (is_number image n) (slots.At (record { 0 = slot image n })) slots.Missing
+unfoldable pub slot_in_use : List ℕ → ℕ → Option Lbn
+slot_in_use image n = cond (is_number image n) (Some (record { 0 = slot image n })) None
 
 -- 01, The header: "names a number in use with a slot, whole, with H.FSEQ = M.EFSQ and a segment number one higher". Header h does so by M.EFNU.
 unfoldable pub links_on : List ℕ → List ℕ → Bool
@@ -65,8 +62,8 @@ file_blocks image n = flat (header image) (chain_of image n)
 
 -- 01, Answer numbers: "12 CHAIN | a bad link", and DONE has as value the "block count (open file)". What the chain of the file whose first header
 -- has number n comes to.
-unfoldable pub chain_blocks : List ℕ → ℕ → Chain
-chain_blocks image n = cond (good_chain image n) (chains.Good (length (file_blocks image n))) chains.Bad
+unfoldable pub chain_blocks : List ℕ → ℕ → Option ℕ
+chain_blocks image n = cond (good_chain image n) (Some (length (file_blocks image n))) None
 
 -- The slots of a list of numbers.
 unfoldable pub slots_of : List ℕ → List ℕ → List ℕ

@@ -3,7 +3,6 @@
 #![tactic(auto)]
 
 ghost use Rattle.std.specs.Prelude.{◌≡◌, true, ◌<◌, length, get_or};
-ghost use Rattle.answer.specs.declared.outcome.Outcome.TheVariants as outcome;
 ghost use Rattle.header.specs.Fields.{m_efnu};
 ghost use Rattle.home.specs.Home.{blocks};
 ghost use Rattle.volume.specs.Volume.{slot, header, is_number};
@@ -12,13 +11,12 @@ ghost use Rattle.chains.specs.Chains.{slot_in_use, good_link, link_from, NextHea
 ghost use Rattle.chains.specs.Finding.{find_number, Finds};
 ghost use Rattle.chains.specs.Members.{Lists};
 
-use answer::outcome::Outcome;
-use answer::refusal::Refusal;
+use answer::refusal::{Answer, Refusal};
 use answer::types::{FileNumber, Lbn};
 use header::fields::m_efnu;
 use image::blocks::block;
 use pointers::{block_count, lbn_in};
-use volume::{Places, Slot, Volume, is_in_use, is_next, slot_at, slot_of};
+use volume::{Places, Volume, is_in_use, is_next, slot_at, slot_of};
 use whole::fault;
 
 // The numbers of a chain's headers and the LBNs of their slots, in the chain's order; what lies past the count says nothing.
@@ -39,11 +37,12 @@ pub fn members_of(image: &[u8], v: Volume, places: &Places, n: FileNumber, lbn: 
     let mut number = n;
     let mut at = lbn;
     let mut count: usize = 0;
+    // A loop, not a for: the chain goes on as its links say, and they end it within 256 headers.
     loop {
         numbers[count] = number.0;
         slots[count] = at.0;
         count += 1;
-        let next = FileNumber(m_efnu(block(image, at)) as u32);
+        let next = FileNumber(u32::from(m_efnu(block(image, at))));
         if next.0 == 0 {
             return Members {
                 count,
@@ -56,15 +55,7 @@ pub fn members_of(image: &[u8], v: Volume, places: &Places, n: FileNumber, lbn: 
     }
 }
 
-// What finding a header comes to.
-#[derive(Clone, Copy)]
-pub struct Finding {
-    pub outcome: Outcome,
-    // The LBN of the header; it says nothing where the outcome is a refusal.
-    pub header: Lbn,
-}
-
-// Where the link of a header leads.
+// Where the link of a header leads. Three states, so neither Option nor Result is plainer.
 #[derive(Clone, Copy)]
 pub enum Link {
     // Nowhere: the header is the last of its chain.
@@ -74,56 +65,31 @@ pub enum Link {
     Bad,
 }
 
-// What a chain comes to.
-#[derive(Clone, Copy)]
-pub enum Chain {
-    // Each link is good; how many blocks its headers cover.
-    Good(u32),
-    Bad,
-}
-
 // The slot of a number, if it is in use and has one.
-pub fn slot_in_use(image: &[u8], v: Volume, places: &Places, n: FileNumber) -> Slot
+#[tactic(auto, unfolding(crate::specs::Chains::slot_in_use, volume::specs::Volume::is_number, volume::specs::Volume::slot_of))]
+pub fn slot_in_use(image: &[u8], v: Volume, places: &Places, n: FileNumber) -> Option<Lbn>
     requires { Recorded image.now v places.now }
     ensures { result ≡ slot_in_use image.now n.0 }
 {
-    let used = is_in_use(image, v, n);
-    if used {
+    if is_in_use(image, v, n) {
         slot_of(image, v, places, n)
     } else {
-        Slot::Missing
-    }
-}
-
-// A header that is not found.
-pub fn unfound(r: Refusal) -> Finding
-    ensures { result.outcome ≡ outcome.Refused r }
-{
-    Finding {
-        outcome: Outcome::Refused(r),
-        header: Lbn(0),
+        None
     }
 }
 
 // Finding the header of a number on an opened volume of so many blocks, where its slot in use was looked for: NUMBER, HEADER. The compiler puts this
 // into each of its callers; with the search for the slot it would be too large for that.
-pub fn find_number(image: &[u8], total: u32, n: FileNumber, place: Slot) -> Finding
-    requires { (open_volume image.now ≡ outcome.Passed) × (total ≡ blocks image.now) × (place ≡ slot_in_use image.now n.0) }
+pub fn find_number(image: &[u8], total: u32, n: FileNumber, place: Option<Lbn>) -> Answer<Lbn>
+    requires { (open_volume image.now ≡ Ok tt) × (total ≡ blocks image.now) × (place ≡ slot_in_use image.now n.0) }
     ensures { Finds (find_number image.now n.0) (slot image.now n.0) result }
 {
-    match place {
-        Slot::At(lbn) => {
-            let unmet = fault(block(image, lbn), total, n);
-            if unmet != 0 {
-                return unfound(Refusal::Header(unmet));
-            }
-            Finding {
-                outcome: Outcome::Passed,
-                header: lbn,
-            }
-        }
-        Slot::Missing => unfound(Refusal::Number),
+    let lbn = place.ok_or(Refusal::Number)?;
+    let unmet = fault(block(image, lbn), total, n);
+    if unmet != 0 {
+        return Err(Refusal::Header(unmet));
     }
+    Ok(lbn)
 }
 
 // Where the link of header h leads.
@@ -131,21 +97,13 @@ pub fn follow(image: &[u8], v: Volume, places: &Places, h: &[u8]) -> Link
     requires { Recorded image.now v places.now }
     ensures { result ≡ link_from image.now h.now }
 {
-    let n = FileNumber(m_efnu(h) as u32);
+    let n = FileNumber(u32::from(m_efnu(h)));
     if n.0 == 0 {
         return Link::End;
     }
-    let place = slot_in_use(image, v, places, n);
-    match place {
-        Slot::At(lbn) => {
-            let next = block(image, lbn);
-            if is_next(h, next, v.blocks, n) {
-                Link::To(lbn)
-            } else {
-                Link::Bad
-            }
-        }
-        Slot::Missing => Link::Bad,
+    match slot_in_use(image, v, places, n) {
+        Some(lbn) if is_next(h, block(image, lbn), v.blocks, n) => Link::To(lbn),
+        _ => Link::Bad,
     }
 }
 
@@ -171,9 +129,15 @@ pub fn next_header<'a>(
     header_of(image, v, places, n)
 }
 
-// What the chain of the file whose first header has number n and lies at this LBN comes to, by one walk over its headers. Most headers have no link,
-// and that is seen without a call.
-pub fn chain_blocks(image: &[u8], v: Volume, places: &Places, n: FileNumber, lbn: Lbn) -> Chain
+// How many blocks the chain of the file whose first header has number n and lies at this LBN covers, by one walk over its headers; nothing where a
+// link is bad. Most headers have no link, and that is seen without a call.
+pub fn chain_blocks(
+    image: &[u8],
+    v: Volume,
+    places: &Places,
+    n: FileNumber,
+    lbn: Lbn,
+) -> Option<u32>
     requires { Recorded image.now v places.now × IsFirst image.now n.0 × (lbn.0 ≡ slot image.now n.0) }
     ensures { result ≡ chain_blocks image.now n.0 }
 {
@@ -182,19 +146,12 @@ pub fn chain_blocks(image: &[u8], v: Volume, places: &Places, n: FileNumber, lbn
     loop {
         count += block_count(h);
         if m_efnu(h) == 0 {
-            return Chain::Good(count);
+            return Some(count);
         }
-        let link = follow(image, v, places, h);
-        match link {
-            Link::End => {
-                return Chain::Good(count);
-            }
-            Link::To(next) => {
-                h = block(image, next);
-            }
-            Link::Bad => {
-                return Chain::Bad;
-            }
+        match follow(image, v, places, h) {
+            Link::End => return Some(count),
+            Link::To(next) => h = block(image, next),
+            Link::Bad => return None,
         }
     }
 }
@@ -213,7 +170,6 @@ pub fn lbn_at(image: &[u8], v: Volume, places: &Places, n: FileNumber, lbn: Lbn,
             return lbn_in(h, left);
         }
         left -= count;
-        let next = next_header(image, v, places, h, FileNumber(m_efnu(h) as u32));
-        h = next;
+        h = next_header(image, v, places, h, FileNumber(u32::from(m_efnu(h))));
     }
 }

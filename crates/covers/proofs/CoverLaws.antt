@@ -1,4 +1,5 @@
 -- Laws of the blocks that headers in use cover, on an image that passes FILES and LINKS.
+use Rattle.std.specs.Prelude.{Ok}
 use mathlib.Core.Path.{◌≡◌, refl, sym}
 use mathlib.Core.Bool.{Bool, true, false, cond, and-eq-true_iff}
 use mathlib.Core.List.{List, [], ◌++◌}
@@ -10,7 +11,6 @@ use lib.Dec.{eqb}
 use lib.ListN.{length, get_or, length-append, get_or-append}
 use lib.Seq.{get_or-append-add}
 use Rattle.header.specs.Fields.{m_efnu}
-use Rattle.answer.specs.declared.outcome.Outcome.TheVariants.{Passed}
 use Rattle.pointers.specs.Pointers.{Fits, blocks_of}
 use Rattle.whole.specs.Whole.{fault}
 use Rattle.whole.proofs.WholeLaws.{whole_is, whole-fits, whole-inside}
@@ -137,7 +137,7 @@ module _ (image : List ℕ) (good : (n : ℕ) → in_use image n ≡ true → go
   file-covered low n j u i = flat-covered low j 256 n u i
 
 -- The headers in use on a volume that opens and passes FILES.
-module _ (image : List ℕ) (o : open_volume image ≡ Passed) (f : files image ≡ Passed) where
+module _ (image : List ℕ) (o : open_volume image ≡ Ok tt) (f : files image ≡ Ok tt) where
   pub passes : FilesPassed image
   passes = files-passed image (opens image o).enough f
 

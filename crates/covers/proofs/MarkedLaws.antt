@@ -1,5 +1,6 @@
 -- Laws of an area that holds the block marks: TWICE and MAP by the marks, and BADHOME by the marks of file 3's blocks.
-use mathlib.Core.Path.{◌≡◌, ap, ◌∙◌}
+use Rattle.std.specs.Prelude.{Ok}
+use mathlib.Core.Path.{◌≡◌, ap, ap₂, ◌∙◌}
 use mathlib.Core.Bool.{Bool, not, ◌&&◌}
 use mathlib.Core.List.{List}
 use Prim.Native.Nat.{ℕ, ◌≤◌, ◌<◌}
@@ -12,10 +13,13 @@ use Rattle.lists.proofs.FirstLaws.{first-same, first-has}
 use Rattle.lists.specs.Counts.{one_if, count}
 use Rattle.image.specs.Words.{byte_at}
 use Rattle.image.specs.Bits.{bit_at}
-use Rattle.answer.specs.declared.outcome.Outcome.TheVariants.{Passed}
+use Rattle.image.specs.Blocks.{region}
 use Rattle.answer.proofs.OutcomeLaws.{passed-last}
 use Rattle.home.specs.Home.{blocks}
-use Rattle.volume.specs.Volume.{storage_map, map_bits}
+use Rattle.volume.specs.declared.Volume.{Volume}
+use Rattle.volume.specs.Volume.{map_blocks, storage_map, map_bits}
+use Rattle.volume.specs.Opening.{Open}
+use Rattle.volume.proofs.VolumeLaws.{says, says-base}
 use Rattle.marks.specs.Marks.{tallied, marked_twice}
 use Rattle.marks.proofs.MarkLaws.{tallied-twice, tallied-clear}
 use Rattle.map_marks.specs.Wanted.{unlike_marks}
@@ -44,9 +48,14 @@ module _ (image area : List ℕ) (marks : area ≡ tallied (covered image) 0 (bl
       (λ j a l. ap (λ (b : Bool). not (eqb (bit_at (storage_map image) j) (one_if b))) (clear-marked j))
 
 -- Where TWICE is passed, no block is covered twice.
-pub covered-once : (image : List ℕ) → twice image ≡ Passed → (j : ℕ) → j < blocks image → count j (covered image) ≤ 1
+pub covered-once : (image : List ℕ) → twice image ≡ Ok tt → (j : ℕ) → j < blocks image → count j (covered image) ≤ 1
 unfolding twice twice_place covered_twice
 covered-once image e j l =
     let end = eqb-true (first (covered_twice (covered image)) 0 (blocks image)) (blocks image) (passed-last _ _ e) in
     let h = first-has (covered_twice (covered image)) 0 (blocks image) in
     omega (arith, leb-false 2 (count j (covered image)) (h.before j (omega arith) (omega arith)))
+
+-- The blocks that are read as the storage map.
+pub map-read : (image : List ℕ) (v : Volume) (q : ℕ) (bits : List ℕ) → Open image v → q ≡ map_blocks v.blocks → bits ≡ region image v.base.0 q → bits ≡ storage_map image
+unfolding storage_map
+map-read image v q bits o e b = b ∙ ap₂ (region image) (says-base image v o.1) (e ∙ ap map_blocks (says image v o.1).blocks)

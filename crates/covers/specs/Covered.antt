@@ -4,8 +4,7 @@ use Rattle.lists.specs.First.{first}
 use Rattle.lists.specs.Counts.{one_if, count}
 use Rattle.image.specs.Bits.{bit_at}
 use Rattle.answer.specs.declared.refusal.Refusal.TheVariants as refusal
-use Rattle.answer.specs.declared.outcome.Outcome.{Outcome}
-use Rattle.answer.specs.Outcome.{unless}
+use Rattle.answer.specs.Outcome.{unless, Outcome}
 use Rattle.pointers.specs.Pointers.{pointer_lbn, pointer_count, pointers_at, pointers, blocks_of}
 use Rattle.home.specs.Home.{blocks}
 use Rattle.volume.specs.Volume.{fmax, storage_map, map_bits}

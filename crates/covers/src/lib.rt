@@ -3,7 +3,6 @@
 #![tactic(auto)]
 
 ghost use Rattle.std.specs.Prelude.{◌≡◌, cond, [], ◌≤◌, length};
-ghost use Rattle.answer.specs.declared.outcome.Outcome.TheVariants.{Passed};
 ghost use Rattle.pointers.specs.Pointers.{Fits, blocks_of};
 ghost use Rattle.home.specs.Home.{blocks};
 ghost use Rattle.volume.specs.Volume.{header, in_use};
@@ -13,8 +12,7 @@ ghost use Rattle.marks.specs.Marks.{tallied, raised_by};
 ghost use Rattle.files.specs.Files.{files};
 ghost use Rattle.covers.specs.Covered.{Ends, covered, twice, bad_map};
 
-use answer::outcome::Outcome;
-use answer::refusal::Refusal;
+use answer::refusal::{Answer, Refusal};
 use answer::types::FileNumber;
 use image::bits::bit_at;
 use image::blocks::{block, region};
@@ -31,18 +29,16 @@ pub fn raise_header(h: &[u8], area: &mut [u8])
 {
     let at = first_pointer(h);
     let number = pointer_number(h);
-    let mut p: usize = 0;
-    while p < number {
+    for p in 0..number {
         let lbn = pointer_lbn(h, at + 4 * p);
         let c = pointer_count(h, at + 4 * p);
         raise_run(area, lbn.0 as usize, c as usize);
-        p += 1;
     }
 }
 
 // The same for a number, if its header is in use. The run stands at its slot.
 fn raise_number(image: &[u8], n: FileNumber, used: bool, run: SlotRun, area: &mut [u8])
-    requires { (open_volume image.now ≡ Passed) × (files image.now ≡ Passed) × (blocks image.now ≤ length area.old) × (used ≡ in_use image.now n.0) × Stands image.now n.0 run }
+    requires { (open_volume image.now ≡ Ok tt) × (files image.now ≡ Ok tt) × (blocks image.now ≤ length area.old) × (used ≡ in_use image.now n.0) × Stands image.now n.0 run }
     ensures { area.new ≡ raised_by area.old (cond (in_use image.now n.0) (blocks_of (header image.now n.0)) []) }
 {
     if used {
@@ -52,24 +48,22 @@ fn raise_number(image: &[u8], n: FileNumber, used: bool, run: SlotRun, area: &mu
 
 // The same for each header in use, in the order of their numbers.
 fn raise_headers(image: &[u8], v: Volume, places: &Places, area: &mut [u8])
-    requires { Recorded image.now v places.now × (files image.now ≡ Passed) × (blocks image.now ≤ length area.old) }
+    requires { Recorded image.now v places.now × (files image.now ≡ Ok tt) × (blocks image.now ≤ length area.old) }
     ensures { area.new ≡ raised_by area.old (covered image.now) }
 {
     let map = region(image, v.iblb, v.ibsz);
-    let fmax = v.fmax;
-    let mut n: u32 = 1;
     let mut run = slot_run(image, v, FileNumber(1));
-    while n <= fmax {
-        let used = bit_at(map, (n - 1) as usize) == 1;
-        raise_number(image, FileNumber(n), used, run, area);
-        run = next_run(image, v, places, FileNumber(n), run);
-        n += 1;
+    for number in 1..v.fmax + 1 {
+        let n = FileNumber(number);
+        let used = bit_at(map, (number - 1) as usize) == 1;
+        raise_number(image, n, used, run, area);
+        run = next_run(image, v, places, n, run);
     }
 }
 
 // Block mark j made the times that LBN j is covered, capped at 2.
 pub fn cover(image: &[u8], v: Volume, places: &Places, area: &mut [u8])
-    requires { Recorded image.now v places.now × (files image.now ≡ Passed) × (blocks image.now ≤ length area.old) }
+    requires { Recorded image.now v places.now × (files image.now ≡ Ok tt) × (blocks image.now ≤ length area.old) }
     ensures { area.new ≡ tallied (covered image.now) 0 (blocks image.now) area.old }
 {
     clear_first(area, v.blocks as usize);
@@ -77,30 +71,26 @@ pub fn cover(image: &[u8], v: Volume, places: &Places, area: &mut [u8])
 }
 
 // TWICE, by the block marks.
-pub fn twice(image: &[u8], v: Volume, area: &[u8]) -> Outcome
+pub fn twice(image: &[u8], v: Volume, area: &[u8]) -> Answer<()>
     requires { Open image.now v × (blocks image.now ≤ length area.now) × (area.now ≡ tallied (covered image.now) 0 (blocks image.now) area.now) }
     ensures { result ≡ twice image.now }
 {
-    let place = first_twice(area, v.blocks as usize) as u32;
-    if place == v.blocks {
-        Outcome::Passed
-    } else {
-        Outcome::Refused(Refusal::Twice(place))
+    match first_twice(area, v.blocks as usize) {
+        None => Ok(()),
+        Some(place) => Err(Refusal::Twice(place as u32)),
     }
 }
 
 // MAP, by the block marks.
-pub fn bad_map(image: &[u8], v: Volume, area: &[u8]) -> Outcome
+pub fn bad_map(image: &[u8], v: Volume, area: &[u8]) -> Answer<()>
     requires { Open image.now v × (blocks image.now ≤ length area.now) × (area.now ≡ tallied (covered image.now) 0 (blocks image.now) area.now) }
     ensures { result ≡ bad_map image.now }
 {
     let q = map_blocks(v.blocks);
     let bits = region(image, v.base, q);
     let end = 4096 * q;
-    let place = first_unlike(bits, area, v.blocks as usize, end as usize) as u32;
-    if place == end {
-        Outcome::Passed
-    } else {
-        Outcome::Refused(Refusal::Map(place))
+    match first_unlike(bits, area, v.blocks as usize, end as usize) {
+        None => Ok(()),
+        Some(place) => Err(Refusal::Map(place as u32)),
     }
 }

@@ -4,16 +4,14 @@
 
 ghost use Rattle.std.specs.Prelude.{◌≡◌, ◌+◌, ◌*◌, ◌≤◌, length};
 ghost use Rattle.image.specs.Stores.{put_block};
-ghost use Rattle.answer.specs.Answers.{id_answer};
+ghost use Rattle.answer.specs.Answers.{answer_of};
 ghost use Rattle.fresh_header.specs.Fresh.{fresh_header};
 ghost use Rattle.volume.specs.Opening.{Recorded};
 ghost use Rattle.verdict.specs.Verdict.{afterwards, header_marks, block_marks};
 ghost use Rattle.update.specs.Create.{new_id, create_answer, with_file, create_image, create_tests};
 ghost use Rattle.spare_number.specs.SpareNumber.{spare_number};
 
-use answer::answers::IdAnswer;
-use answer::outcome::Outcome;
-use answer::refusal::Refusal;
+use answer::refusal::{Answer, Refusal};
 use answer::types::{FileId, FileNumber, Lbn, Name};
 use fresh_header::put_fresh;
 use header::fields::h_fseq;
@@ -55,12 +53,9 @@ fn put_file(
     ensures { (result ≡ new_id image.old) × (image.new ≡ with_file image.old name owner protection) }
 {
     let lbn = slot_at(image, v, places, n);
-    let word = h_fseq(block(image, lbn));
-    let number = n.0 as u16;
-    let sequence = word + 1;
     let id = FileId {
-        number,
-        sequence,
+        number: n.0 as u16,
+        sequence: h_fseq(block(image, lbn)) + 1,
         volume: 0,
     };
     put_header(image, lbn, id, owner, protection, name);
@@ -76,20 +71,16 @@ pub fn create_on(
     name: Name,
     owner: u16,
     protection: u16,
-) -> IdAnswer
+) -> Answer<FileId>
     requires { Recorded image.old v places.now }
-    ensures { (result ≡ id_answer (create_tests image.old name) (new_id image.old))
+    ensures { (result ≡ answer_of (create_tests image.old name) (new_id image.old))
         × (image.new ≡ afterwards (create_tests image.old name) image.old (with_file image.old name owner protection)) }
 {
-    let good = is_proper(name);
-    if !good {
-        return IdAnswer::Refused(Refusal::Name);
+    if !is_proper(name) {
+        return Err(Refusal::Name);
     }
-    let n = spare_number(image, v, places);
-    if v.fmax < n.0 {
-        return IdAnswer::Refused(Refusal::Nonumber);
-    }
-    IdAnswer::Done(put_file(image, v, places, n, name, owner, protection))
+    let n = spare_number(image, v, places).ok_or(Refusal::Nonumber)?;
+    Ok(put_file(image, v, places, n, name, owner, protection))
 }
 
 // Create. The marks are those of the image before it.
@@ -100,17 +91,13 @@ pub fn create(
     protection: u16,
     area: &mut [u8],
     headers: &mut [u8],
-) -> IdAnswer
+) -> Answer<FileId>
     ensures { (result ≡ create_answer image.old name (length area.old) (length headers.old))
         × (image.new ≡ create_image image.old name owner protection (length area.old) (length headers.old))
         × (area.new ≡ block_marks image.old area.old headers.old)
         × (headers.new ≡ header_marks image.old area.old headers.old) }
 {
     let mut places = [0u32; 256];
-    let j = judge_volume(image, &mut places, area, headers);
-    let outcome = j.outcome;
-    match outcome {
-        Outcome::Passed => create_on(image, j.volume, &places, name, owner, protection),
-        Outcome::Refused(r) => IdAnswer::Refused(r),
-    }
+    let v = judge_volume(image, &mut places, area, headers)?;
+    create_on(image, v, &places, name, owner, protection)
 }

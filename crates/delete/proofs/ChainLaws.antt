@@ -6,14 +6,16 @@ use Prim.Native.Nat.{ℕ, ◌+◌, ◌*◌, ◌≤◌, ◌<◌}
 use native.Mathlib.Omega.{arith}
 use lib.ListN.{length, get_or, take, length-take}
 use lib.Seq.{get_or-take}
+use Rattle.std.specs.Prelude.{Ok}
 use Rattle.image.specs.Blocks.{block}
+use Rattle.image.specs.Words.{Bytes}
 use Rattle.pointers.specs.Pointers.{blocks_of}
 use Rattle.whole.proofs.WholeLaws.{whole-fits}
 use Rattle.home.specs.Home.{blocks}
 use Rattle.volume.specs.Volume.{ibsz, iblb, slot, slots, has_slot, header, fault_of, in_use, is_number, map_blocks, base, volume_of}
-use Rattle.volume.specs.Opening.{Laid}
+use Rattle.volume.specs.Opening.{Laid, open_volume}
 use Rattle.volume.specs.declared.Volume.{Volume}
-use Rattle.volume.proofs.VolumeLaws.{slot-below, header-length, says, says-base}
+use Rattle.volume.proofs.VolumeLaws.{slot-below, header-length, opens, says, says-base}
 use Rattle.chains.specs.Chains.{chain_of, IsFirst, slots_of}
 use Rattle.pointers.specs.Pointers.{flat}
 use Rattle.lists.specs.Counts.{In}
@@ -21,6 +23,7 @@ use Rattle.lists.proofs.CountLaws.{count_at}
 use Rattle.slots.proofs.SlotLaws.{used-range}
 use Rattle.covers.proofs.CoverLaws.{whole-ends}
 use Rattle.sound.specs.Claims.{IsFile}
+use Rattle.sound.specs.Sound.{Safe}
 use Rattle.sound.proofs.MemberLaws.{in-here, in_tail}
 use Rattle.image.specs.Stores.{put_map_bits}
 use Rattle.update.specs.Delete.{index_bits, clear_slots, without_numbers}
@@ -34,9 +37,14 @@ use Rattle.delete_steps.specs.Steps.{HaveBits, Freeable, AllFreeable, AllInside}
 use Rattle.delete_steps.proofs.StepLaws.{put-length}
 
 -- A number whose header was found is that of a file.
-pub first-file : (image : List ℕ) (n : ℕ) → IsFirst image n → IsFile image n
+first-file : (image : List ℕ) (n : ℕ) → IsFirst image n → IsFile image n
 unfolding is_number
 first-file image n f = record { used = ((and-eq-true_iff (in_use image n) (has_slot image n)).0 f.0).0; first = f.2 }
+
+-- A file that is found on a safe image, and is not a known one, may be deleted.
+pub deleting : (image : List ℕ) (n : ℕ) → Bytes image → open_volume image ≡ Ok tt → Safe image → IsFirst image n → 6 ≤ n → Deleting image n
+deleting image n bytes o safe f high =
+    record { usable = record { bytes = bytes; opens = opens image o; safe = safe }; file = first-file image n f; high = high }
 
 -- The blocks of headers by the blocks that hold them.
 flat-slots : (image a ns : List ℕ) → ((k : ℕ) → In k ns → block a (slot image k) ≡ header image k) → flat (block a) (slots_of image ns) ≡ flat (header image) ns

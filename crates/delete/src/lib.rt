@@ -3,7 +3,6 @@
 #![tactic(auto)]
 
 ghost use Rattle.std.specs.Prelude.{◌≡◌, true, ◌≤◌, length};
-ghost use Rattle.answer.specs.Answers.{bare_answer};
 ghost use Rattle.volume.specs.Volume.{slot};
 ghost use Rattle.volume.specs.Opening.{Recorded};
 ghost use Rattle.chains.specs.Chains.{chain_of, good_chain, IsFirst};
@@ -11,9 +10,7 @@ ghost use Rattle.verdict.specs.Verdict.{afterwards, block_marks, header_marks};
 ghost use Rattle.sound.specs.Sound.{Safe};
 ghost use Rattle.update.specs.Delete.{delete_answer, without_numbers, delete_image, delete_tests};
 
-use answer::answers::BareAnswer;
-use answer::outcome::Outcome;
-use answer::refusal::Refusal;
+use answer::refusal::{Answer, Refusal};
 use answer::types::{FileId, FileNumber, Lbn};
 use chains::members_of;
 use delete_steps::{clear_index, clear_slots, free_headers};
@@ -28,47 +25,35 @@ fn delete_chain(image: &mut [u8], v: Volume, places: &Places, n: FileNumber, lbn
     ensures { image.new ≡ without_numbers image.old (chain_of image.old n.0) }
 {
     let m = members_of(image, v, places, n, lbn);
-    let numbers = m.numbers;
-    let slots = m.slots;
     let q = map_blocks(v.blocks);
-    clear_index(image, v.iblb, v.ibsz, numbers, m.count);
-    free_headers(image, v.base, q, slots, m.count);
-    clear_slots(image, slots, m.count);
+    clear_index(image, v.iblb, v.ibsz, m.numbers, m.count);
+    free_headers(image, v.base, q, m.slots, m.count);
+    clear_slots(image, m.slots, m.count);
 }
 
 // Deletes a file on a volume that opens and is safe.
-pub fn delete_on(image: &mut [u8], v: Volume, places: &Places, id: FileId) -> BareAnswer
+pub fn delete_on(image: &mut [u8], v: Volume, places: &Places, id: FileId) -> Answer<()>
     requires { Recorded image.old v places.now × Safe image.old }
-    ensures { (result ≡ bare_answer (delete_tests image.old id))
+    ensures { (result ≡ delete_tests image.old id)
         × (image.new ≡ afterwards (delete_tests image.old id) image.old (without_numbers image.old (chain_of image.old id.number))) }
 {
-    let file = open_on(image, v, places, id);
-    let result = file.outcome;
-    match result {
-        Outcome::Passed => {
-            let n = id.number as u32;
-            if n <= 5 {
-                return BareAnswer::Refused(Refusal::Known);
-            }
-            delete_chain(image, v, places, FileNumber(n), file.header);
-            BareAnswer::Done
-        }
-        Outcome::Refused(r) => BareAnswer::Refused(r),
+    let file = open_on(image, v, places, id)?;
+    let n = FileNumber(u32::from(id.number));
+    if n.0 <= 5 {
+        return Err(Refusal::Known);
     }
+    delete_chain(image, v, places, n, file.header);
+    Ok(())
 }
 
 // Judges the volume, and deletes a file.
-pub fn delete(image: &mut [u8], id: FileId, area: &mut [u8], headers: &mut [u8]) -> BareAnswer
+pub fn delete(image: &mut [u8], id: FileId, area: &mut [u8], headers: &mut [u8]) -> Answer<()>
     ensures { (result ≡ delete_answer image.old id (length area.old) (length headers.old))
         × (image.new ≡ delete_image image.old id (length area.old) (length headers.old))
         × (area.new ≡ block_marks image.old area.old headers.old)
         × (headers.new ≡ header_marks image.old area.old headers.old) }
 {
     let mut places = [0u32; 256];
-    let j = judge_volume(image, &mut places, area, headers);
-    let result = j.outcome;
-    match result {
-        Outcome::Passed => delete_on(image, j.volume, &places, id),
-        Outcome::Refused(r) => BareAnswer::Refused(r),
-    }
+    let v = judge_volume(image, &mut places, area, headers)?;
+    delete_on(image, v, &places, id)
 }

@@ -22,14 +22,13 @@ pub fn clear_index(image: &mut [u8], map: Lbn, q: u32, numbers: [u32; 256], coun
     requires { (512 * (map.0 + q) ≤ length image.old) × (count ≤ 256) × HaveBits q count numbers }
     ensures { image.new ≡ put_map_bits image.old map.0 q (index_bits (take count numbers)) 0 }
 {
-    let mut i: usize = 0;
-    while i < count {
-        put_map_bit(image, map, q, numbers[i] - 1, 0);
-        i += 1;
+    for &n in &numbers[..count] {
+        put_map_bit(image, map, q, n - 1, 0);
     }
 }
 
 // The blocks of the pointer at a byte of the header at an LBN made free, in the storage map, the q blocks from another on.
+#[tactic(auto, unfolding(pointers::specs::Pointers::run))]
 fn free_pointer(image: &mut [u8], map: Lbn, q: u32, lbn: Lbn, at: usize)
     requires { (512 * (map.0 + q) ≤ length image.old) × PointsInto (4096 * q) (block image.old lbn.0) at }
     ensures { image.new ≡ put_map_bits image.old map.0 q (run (block image.old lbn.0) at) 1 }
@@ -48,10 +47,8 @@ fn free_header(image: &mut [u8], map: Lbn, q: u32, lbn: Lbn)
     let h = block(image, lbn);
     let at = first_pointer(h);
     let number = pointer_number(h);
-    let mut p: usize = 0;
-    while p < number {
+    for p in 0..number {
         free_pointer(image, map, q, lbn, at + 4 * p);
-        p += 1;
     }
 }
 
@@ -60,10 +57,8 @@ pub fn free_headers(image: &mut [u8], map: Lbn, q: u32, slots: [u32; 256], count
     requires { (512 * (map.0 + q) ≤ length image.old) × (count ≤ 256) × AllFreeable image.old map.0 q count slots }
     ensures { image.new ≡ put_map_bits image.old map.0 q (flat (block image.old) (take count slots)) 1 }
 {
-    let mut i: usize = 0;
-    while i < count {
-        free_header(image, map, q, Lbn(slots[i]));
-        i += 1;
+    for &slot in &slots[..count] {
+        free_header(image, map, q, Lbn(slot));
     }
 }
 
@@ -82,9 +77,7 @@ pub fn clear_slots(image: &mut [u8], slots: [u32; 256], count: usize)
     requires { (count ≤ 256) × AllInside image.old count slots }
     ensures { image.new ≡ clear_slots image.old (take count slots) }
 {
-    let mut i: usize = 0;
-    while i < count {
-        clear_at(image, Lbn(slots[i]));
-        i += 1;
+    for &slot in &slots[..count] {
+        clear_at(image, Lbn(slot));
     }
 }

@@ -13,7 +13,6 @@ use answer::types::{FileNumber, Lbn};
 use chains::{lbn_at, next_header};
 use header::fields::m_efnu;
 use image::blocks::{block, region};
-use image::numbers::least;
 use pointers::{block_count, first_pointer, pointer_count, pointer_lbn, pointer_number};
 use record_search::first_in;
 use records::{Entry, Wanted, entry_at};
@@ -24,7 +23,7 @@ fn search_run(image: &[u8], lbn: Lbn, count: u32, from: u32, to: u32, w: Wanted)
     requires { (512 * (lbn.0 + count) ≤ length image.now) × (count ≤ 256) × (from ≤ to) }
     ensures { (result ≡ search_in image.now (numbers_from lbn.0 count) w from to) × (from ≤ result) × (result ≤ to) }
 {
-    let end = least(to, 32 * count);
+    let end = to.min(32 * count);
     if end <= from {
         return from;
     }
@@ -41,17 +40,16 @@ fn search_header(image: &[u8], h: &[u8], from: u32, to: u32, w: Wanted) -> u32
     let number = pointer_number(h);
     let mut place = from;
     let mut start: u32 = 0;
-    let mut p: usize = 0;
-    while p < number {
-        let lbn = pointer_lbn(h, first + 4 * p);
-        let count = pointer_count(h, first + 4 * p);
+    for p in 0..number {
+        let pointer = first + 4 * p;
+        let lbn = pointer_lbn(h, pointer);
+        let count = pointer_count(h, pointer);
         let r = search_run(image, lbn, count, place - start, to - start, w);
         if r < 32 * count {
             return start + r;
         }
         place = start + r;
         start += 32 * count;
-        p += 1;
     }
     place
 }
@@ -73,6 +71,7 @@ pub fn search_file(
     let mut h = block(image, lbn);
     let mut place = from;
     let mut start: u32 = 0;
+    // A loop: each header names the next, so how many there are is not known before.
     loop {
         let count = block_count(h);
         let r = search_header(image, h, place - start, to - start, w);
@@ -81,12 +80,11 @@ pub fn search_file(
         }
         place = start + r;
         start += 32 * count;
-        let n = m_efnu(h) as u32;
-        if n == 0 {
+        let next = FileNumber(u32::from(m_efnu(h)));
+        if next.0 == 0 {
             return place;
         }
-        let next = next_header(image, v, places, h, FileNumber(n));
-        h = next;
+        h = next_header(image, v, places, h, next);
     }
 }
 
@@ -111,6 +109,5 @@ pub fn entry_of_file(
     ensures { result ≡ entry_of_file image.now n.0 r }
 {
     let place = lbn_at(image, v, places, n, lbn, r / 32);
-    let b = block(image, place);
-    entry_at(b, r % 32)
+    entry_at(block(image, place), r % 32)
 }

@@ -11,29 +11,23 @@ ghost use Rattle.sound.specs.Sound.{Safe};
 ghost use Rattle.update.specs.Extend.{run_start, extend_answer, with_blocks, extend_image, extend_tests};
 
 use crate::taking::take;
-use answer::answers::LbnAnswer;
-use answer::outcome::Outcome;
-use answer::types::FileId;
-use extend_plan::{Plan, plan_on};
+use answer::refusal::Answer;
+use answer::types::{FileId, Lbn};
+use extend_plan::plan_on;
 use verdict::judge_volume;
 use volume::{Places, Volume};
 
 pub mod taking;
 
 // Extend on a volume that opens and is safe.
-pub fn extend_on(image: &mut [u8], v: Volume, places: &Places, id: FileId, c: u32) -> LbnAnswer
+pub fn extend_on(image: &mut [u8], v: Volume, places: &Places, id: FileId, c: u32) -> Answer<Lbn>
     requires { Recorded image.old v places.now × Safe image.old }
     ensures { (result ≡ lbn_answer (extend_tests image.old id c) (run_start image.old c))
         × (image.new ≡ afterwards (extend_tests image.old id c) image.old (with_blocks image.old (last_number image.old id.number) (run_start image.old c) c)) }
 {
-    let plan = plan_on(image, v, places, id, c);
-    match plan {
-        Plan::To(last, lbn) => {
-            take(image, v, last, lbn, c);
-            LbnAnswer::Done(lbn)
-        }
-        Plan::Refused(r) => LbnAnswer::Refused(r),
-    }
+    let plan = plan_on(image, v, places, id, c)?;
+    take(image, v, plan.last, plan.first, c);
+    Ok(plan.first)
 }
 
 // Extends a file by c blocks. The marks are those of the image before it.
@@ -43,18 +37,13 @@ pub fn extend(
     c: u32,
     area: &mut [u8],
     headers: &mut [u8],
-) -> LbnAnswer
+) -> Answer<Lbn>
     ensures { (result ≡ extend_answer image.old id c (length area.old) (length headers.old))
         × (image.new ≡ extend_image image.old id c (length area.old) (length headers.old))
         × (area.new ≡ block_marks image.old area.old headers.old)
         × (headers.new ≡ header_marks image.old area.old headers.old) }
 {
     let mut places = [0u32; 256];
-    let judged = judge_volume(image, &mut places, area, headers);
-    let result = judged.outcome;
-    let v = judged.volume;
-    match result {
-        Outcome::Passed => extend_on(image, v, &places, id, c),
-        Outcome::Refused(r) => LbnAnswer::Refused(r),
-    }
+    let v = judge_volume(image, &mut places, area, headers)?;
+    extend_on(image, v, &places, id, c)
 }

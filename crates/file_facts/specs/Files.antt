@@ -1,16 +1,14 @@
 -- What an opened file says of itself: owner, protection, flags, and the attributes that FCS keeps (000, 6.1).
+use Rattle.answer.specs.Outcome.{Answer}
+use Rattle.answer.specs.Answers.{answer_of}
 use Rattle.std.specs.Prelude.{List, ℕ, length}
 use Rattle.answer.specs.declared.types.FileId.{FileId}
-use Rattle.answer.specs.declared.outcome.Outcome.{Outcome}
-use Rattle.answer.specs.declared.outcome.Outcome.TheVariants as outcome
 use Rattle.header.specs.Attributes.{f_hibk, f_rtyp_ratt, end_of, f_rsiz, f_efbk, f_ffby}
 use Rattle.header.specs.Fields.{h_fpro, h_fown, h_fcha}
 use Rattle.volume.specs.Volume.{header}
 use Rattle.chains.specs.Chains.{file_blocks}
 use Rattle.open_file.specs.Opening.{open_file}
 use Rattle.file_facts.specs.declared.types.Attributes.{Attributes}
-use Rattle.file_facts.specs.declared.types.AttributesAnswer.{AttributesAnswer}
-use Rattle.file_facts.specs.declared.types.AttributesAnswer.TheVariants as answers
 
 -- What the first header of a file of so many blocks says.
 unfoldable pub attributes_of : List ℕ → ℕ → Attributes
@@ -27,10 +25,6 @@ attributes_of h count = record {
   first_free = f_ffby h;
 }
 
-unfoldable pub attributes_by : Outcome → Attributes → AttributesAnswer
-attributes_by outcome.Passed f = answers.Done f
-attributes_by (outcome.Refused r) f = answers.Refused r
-
 -- Every call on a file opens it first; 01, Answer numbers: 1 to 12.
-unfoldable pub attributes_answer : List ℕ → FileId → AttributesAnswer
-attributes_answer image id = attributes_by (open_file image id) (attributes_of (header image id.number) (length (file_blocks image id.number)))
+unfoldable pub attributes_answer : List ℕ → FileId → Answer Attributes
+attributes_answer image id = answer_of (open_file image id) (attributes_of (header image id.number) (length (file_blocks image id.number)))

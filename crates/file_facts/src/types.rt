@@ -1,5 +1,4 @@
 // What an opened file says of itself, as types.
-use answer::refusal::Refusal;
 use answer::types::Vbn;
 
 // What an opened file says of itself.
@@ -25,11 +24,4 @@ pub struct Attributes {
     pub end_block: Vbn,
     // F.FFBY.
     pub first_free: u16,
-}
-
-// The answer of asking what a file says.
-#[derive(Clone, Copy)]
-pub enum AttributesAnswer {
-    Done(Attributes),
-    Refused(Refusal),
 }

@@ -1,30 +1,19 @@
 -- The answer words of the calls that read a file.
+use Rattle.answer.specs.declared.types.Lbn.{Lbn}
+use Rattle.answer.specs.Outcome.{Answer}
+use Rattle.answer.specs.Words.{words_of}
+use Rattle.file_facts.specs.declared.types.Attributes.{Attributes}
+use Rattle.file_facts.specs.Values.{attributes_value}
 use Rattle.std.specs.Prelude.{ℕ, ◌*◌, List, [], ◌∷◌}
-use Rattle.answer.specs.Words.{done_words, refused_words}
-use Rattle.answer.specs.declared.answers.LbnAnswer.{LbnAnswer}
-use Rattle.answer.specs.declared.answers.LbnAnswer.TheVariants as lbns
-use Rattle.file_facts.specs.declared.types.AttributesAnswer.{AttributesAnswer}
-use Rattle.file_facts.specs.declared.types.AttributesAnswer.TheVariants as answers
 
--- 01, Answer numbers: DONE has as value the "block". 01, Names and directories: "the image's own 512 bytes, not a copy": where they begin, and
--- how many they are.
-abbrev pub block_words : LbnAnswer → List ℕ
-block_words (lbns.Done lbn) = done_words (512 * lbn.0 ∷ 512 ∷ [])
-block_words (lbns.Refused r) = refused_words r
+-- 01, Names and directories: "the image's own 512 bytes, not a copy": where they begin, and how many they are.
+abbrev pub block_value : Lbn → List ℕ
+block_value lbn = 512 * lbn.0 ∷ 512 ∷ []
 
--- Block count, bytes before the end of file, H.FOWN, H.FPRO, H.FCHA, F.RTYP with F.RATT, F.RSIZ, F.HIBK, F.EFBK, F.FFBY.
-abbrev pub attributes_words : AttributesAnswer → List ℕ
-attributes_words (answers.Done f) =
-    done_words (
-    f.blocks
-    ∷ f.end
-    ∷ f.owner
-    ∷ f.protection
-    ∷ f.flags
-    ∷ f.record_type
-    ∷ f.record_size
-    ∷ f.highest.0
-    ∷ f.end_block.0
-    ∷ f.first_free
-    ∷ [])
-attributes_words (answers.Refused r) = refused_words r
+-- 01, Answer numbers: DONE has as value the "block".
+abbrev pub block_words : Answer Lbn → List ℕ
+block_words = words_of block_value
+
+-- What a file says of itself. No call of 01 has this value.
+abbrev pub attributes_words : Answer Attributes → List ℕ
+attributes_words = words_of attributes_value

@@ -1,5 +1,6 @@
 -- Laws of FILES: what it says of a number by its tests one after the other, and what a volume has that passes it.
-use mathlib.Core.Path.{◌≡◌, refl, sym, ◌∙◌}
+use Rattle.std.specs.Prelude.{Ok, Err, Some}
+use mathlib.Core.Path.{◌≡◌, refl, sym, ap, ◌∙◌}
 use mathlib.Core.Bool.{Bool, true, false, not, ◌&&◌, ◌||◌, false≢true, and-false, or-true}
 use mathlib.Core.List.{List}
 use Prim.Native.Nat.{ℕ, ◌+◌, ◌≤◌, ◌<◌}
@@ -7,13 +8,19 @@ use native.Mathlib.Decide.{ℕ_discrete, dec_le}
 use native.Mathlib.Omega.{arith}
 use borrow.Author.Tests.{eqb-true, eq-eqb, ne_eqb, le-leb, lt-leb}
 use lib.Dec.{eqb, leb}
-use Rattle.answer.specs.declared.outcome.Outcome.TheVariants.{Passed}
-use Rattle.answer.proofs.OutcomeLaws.{passed-last}
+use Rattle.image.specs.Blocks.{block}
+use Rattle.answer.specs.declared.refusal.Refusal.TheVariants as refusal
+use Rattle.answer.specs.declared.types.Lbn.{Lbn}
 use Rattle.header.specs.Fields.{h_fseq, segment}
 use Rattle.volume.specs.Volume.{fmax, slots, has_slot, header, fault_of, in_use, is_number}
-use Rattle.slots.proofs.SlotLaws.{used-range}
-use Rattle.files.specs.Files.{is_known, bad_file, files_place, files}
-use Rattle.files.proofs.SearchLaws.{search-passed, search-all}
+use Rattle.volume.specs.Opening.{Recorded}
+use Rattle.volume.specs.declared.Volume.{Volume}
+use Rattle.chains.specs.Chains.{slot_in_use}
+use Rattle.chains.proofs.LinkLaws.{Found, slot-found}
+use Rattle.slots.proofs.SlotLaws.{used-range, opened-fmax}
+use Rattle.std.proofs.Common.{Fits, w8, get_or}
+use Rattle.files.specs.Files.{is_known, bad_file, unmet_of, files_place, files}
+use Rattle.files.proofs.SearchLaws.{search-passed, search-all, search-none, search-refused}
 
 module _ (image : List ℕ) (n : ℕ) where
   pub bad-unused : in_use image n ≡ false → bad_file image n ≡ leb n 5
@@ -90,7 +97,7 @@ module _ (image : List ℕ) where
             let r = neither (eqb (h_fseq (header image n)) n) (eqb (segment (header image n)) 0) (sym (bad-known image n u (good-slotted u) (good-whole u) l) ∙ good) in
             record { used = u; sequence = eqb-true (h_fseq (header image n)) n r.0; first = eqb-true (segment (header image n)) 0 r.1 }
 
-  pub files-passed : 16 ≤ fmax image → files image ≡ Passed → FilesPassed image
+  pub files-passed : 16 ≤ fmax image → files image ≡ Ok tt → FilesPassed image
   unfolding files files_place
   files-passed enough e =
       let good : (n : ℕ) → 1 ≤ n → n ≤ fmax image → bad_file image n ≡ false =
@@ -101,7 +108,7 @@ module _ (image : List ℕ) where
         known = λ n l h. good-known n (good n l (omega arith)) h;
       }
 
-  pub files-all : FilesPassed image → files image ≡ Passed
+  pub files-all : FilesPassed image → files image ≡ Ok tt
   unfolding files files_place
   files-all f = search-all (bad_file image) 1 (fmax image) _ (λ n l h. go n l (in_use image n) refl (dec_le n 5))
     where
@@ -113,12 +120,28 @@ module _ (image : List ℕ) where
       go n l false u (yes h) = absurd (false≢true (sym u ∙ (f.known n l h).used))
       go n l false u (no h) = rw (bad-unused image n u, lt-leb n 5 (omega arith))
 
--- There is no offender.
-pub files-place : (image : List ℕ) → files image ≡ Passed → files_place image ≡ 1 + fmax image
-unfolding files
-files-place image e = eqb-true (files_place image) (1 + fmax image) (passed-last (eqb (files_place image) (1 + fmax image)) _ e)
+-- What FILES comes to by the place that is found.
+module _ (image : List ℕ) where
+  pub files-none : files_place image ≡ fmax image + 1 → files image ≡ Ok tt
+  unfolding files files_place
+  files-none e = search-none (bad_file image) 1 (fmax image) _ (omega (arith, e))
+
+  pub files-refused : (n : ℕ) → files_place image ≡ n → n ≤ fmax image → files image ≡ Err (refusal.Files n (unmet_of image n))
+  unfolding files files_place
+  files-refused n e l = rw (← e) (search-refused (bad_file image) 1 (fmax image) _ (omega (arith, e)))
 
 -- A number in use is then one that has a slot.
 pub files-number : (image : List ℕ) → FilesPassed image → (n : ℕ) → in_use image n ≡ true → is_number image n ≡ true
 unfolding is_number has_slot
 files-number image f n u = rw (u, le-leb n (slots image) (f.slotted n u))
+
+-- The header at the slot that was found is that of a number in use.
+pub number-read : (image : List ℕ) (n : ℕ) (lbn : Lbn) (h : List ℕ) → slot_in_use image n ≡ Some lbn → h ≡ block image lbn.0 → (is_number image n ≡ true) × (h ≡ header image n)
+unfolding header
+number-read image n lbn h e read =
+    let found : Found image n (Some lbn) = slot-found image n _ e in
+    (found.0, read ∙ ap (block image) (omega (arith, found)))
+
+-- An opened volume has fewer than 65,536 file numbers: H.FMAX is a word.
+pub fmax-few : (image : List ℕ) (v : Volume) {at : List ℕ} → Recorded image v at → ((i : ℕ) → Fits w8 (get_or image i 0)) → (v.fmax ≡ fmax image) × (v.fmax < 65536)
+fmax-few image v r bytes = opened-fmax image v r (record { each = λ i. omega (arith, bytes i) })

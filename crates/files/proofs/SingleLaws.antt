@@ -42,7 +42,7 @@ module _ (image : List ℕ) where
           rw (q, ← stands_read image n run s (good-slotted image n good v)) r
       go (no q) = below m (omega arith) u
 
-  pub unlinked-all : UnlinkedBelow image (1 + fmax image) → Unlinked image
+  pub unlinked-all : UnlinkedBelow image (fmax image + 1) → Unlinked image
   unlinked-all below = record { ends = λ n u. (go n u).0; first = λ n u. (go n u).1 }
     where
       go : (n : ℕ) → in_use image n ≡ true → (m_efnu (header image n) ≡ 0) × (segment (header image n) ≡ 0)

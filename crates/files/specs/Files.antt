@@ -2,8 +2,7 @@
 use Rattle.std.specs.Prelude.{Bool, cond, not, ◌&&◌, ◌||◌, List, ℕ, ◌+◌, eqb, leb}
 use Rattle.lists.specs.First.{first}
 use Rattle.answer.specs.declared.refusal.Refusal.TheVariants as refusal
-use Rattle.answer.specs.declared.outcome.Outcome.{Outcome}
-use Rattle.answer.specs.Outcome.{unless}
+use Rattle.answer.specs.Outcome.{unless, Outcome}
 use Rattle.header.specs.Fields.{h_fseq, segment}
 use Rattle.volume.specs.Volume.{fmax, has_slot, header, fault_of, in_use, is_number}
 

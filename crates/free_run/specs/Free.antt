@@ -1,11 +1,10 @@
 -- Runs of free blocks, one after the other.
+use Rattle.answer.specs.declared.types.Run.{Run}
 use Rattle.std.specs.Prelude.{Bool, List, ℕ, ◌-◌, eqb, ltb}
 use Rattle.image.specs.Bits.{bit_at}
 use Rattle.lists.specs.First.{first}
 use Rattle.answer.specs.declared.refusal.Refusal.TheVariants as refusal
-use Rattle.answer.specs.declared.outcome.Outcome.{Outcome}
-use Rattle.answer.specs.declared.answers.RunAnswer.{RunAnswer}
-use Rattle.answer.specs.Outcome.{unless, ◌then◌}
+use Rattle.answer.specs.Outcome.{unless, ◌then◌, Outcome, Answer}
 use Rattle.answer.specs.Answers.{run_answer}
 use Rattle.home.specs.Home.{blocks}
 use Rattle.volume.specs.Volume.{storage_map}
@@ -32,7 +31,7 @@ unfoldable pub find_free : List ℕ → ℕ → Outcome
 find_free image from = open_volume image then unless (ltb (next_free image from) (blocks image)) refusal.Absent
 
 -- The first run of free blocks from an LBN on: the LBN of its first block, and how many blocks it has.
-unfoldable pub free_run_answer : List ℕ → ℕ → RunAnswer
+unfoldable pub free_run_answer : List ℕ → ℕ → Answer Run
 free_run_answer image from =
     let lbn = next_free image from in
     run_answer (find_free image from) lbn (next_taken image lbn - lbn)

@@ -10,6 +10,7 @@ use image::sums::checksum;
 use stores::{clear, put_word};
 
 // The checksum, made right.
+#[tactic(auto, unfolding(crate::specs::Fresh::sealed))]
 pub fn seal(h: &mut [u8])
     requires { length h.old ≡ 512 }
     ensures { h.new ≡ sealed h.old }
@@ -28,6 +29,7 @@ fn put_offsets(h: &mut [u8])
 }
 
 // The offsets of the areas, the file ID, the level, the owner and the protection.
+#[tactic(auto, unfolding(crate::specs::Fresh::identified))]
 fn identify(h: &mut [u8], n: u16, sequence: u16, owner: u16, protection: u16)
     requires { length h.old ≡ 512 }
     ensures { h.new ≡ identified h.old n sequence owner protection }
@@ -41,6 +43,7 @@ fn identify(h: &mut [u8], n: u16, sequence: u16, owner: u16, protection: u16)
 }
 
 // The name, the type and the version.
+#[tactic(auto, unfolding(crate::specs::Fresh::named))]
 fn put_name(h: &mut [u8], name: Name)
     requires { length h.old ≡ 512 }
     ensures { h.new ≡ named h.old name }
@@ -53,6 +56,7 @@ fn put_name(h: &mut [u8], name: Name)
 }
 
 // M.CTSZ, M.LBSZ and M.MAX.
+#[tactic(auto, unfolding(crate::specs::Fresh::mapped))]
 fn put_map(h: &mut [u8])
     requires { length h.old ≡ 512 }
     ensures { h.new ≡ mapped h.old }
@@ -63,6 +67,7 @@ fn put_map(h: &mut [u8])
 }
 
 // The header of a new file of number n, which covers nothing, in the stead of what was there.
+#[tactic(auto, unfolding(crate::specs::Fresh::fresh_header))]
 pub fn put_fresh(h: &mut [u8], n: u16, sequence: u16, owner: u16, protection: u16, name: Name)
     requires { length h.old ≡ 512 }
     ensures { h.new ≡ fresh_header n sequence owner protection name }

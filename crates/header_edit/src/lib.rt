@@ -14,6 +14,7 @@ use pointers::{first_pointer, pointer_number};
 use stores::{clear, put_word};
 
 // Every byte 0 but those of the sequence word.
+#[tactic(auto, unfolding(crate::specs::Cleared::cleared_slot))]
 pub fn clear_slot(h: &mut [u8])
     requires { length h.old ≡ 512 }
     ensures { h.new ≡ cleared_slot h.old }
@@ -24,6 +25,7 @@ pub fn clear_slot(h: &mut [u8])
 }
 
 // The pointer to the c blocks from an LBN on, at a byte of the header.
+#[tactic(auto, unfolding(crate::specs::Extended::put_pointer))]
 fn put_pointer(h: &mut [u8], at: usize, lbn: Lbn, c: u32)
     requires { (at + 4 ≤ length h.old) × (lbn.0 < 2 ^ 24) × (1 ≤ c) × (c ≤ 256) }
     ensures { h.new ≡ put_pointer h.old at lbn.0 c }
@@ -35,6 +37,7 @@ fn put_pointer(h: &mut [u8], at: usize, lbn: Lbn, c: u32)
 }
 
 // M.USE, made so many words.
+#[tactic(auto, unfolding(crate::specs::Extended::put_use))]
 fn put_use(h: &mut [u8], words: u8)
     requires { map_area h.old + 8 < length h.old }
     ensures { h.new ≡ put_use h.old words }

@@ -1,11 +1,9 @@
 -- What the header of a file number in use says, whoever may open the file: its place in a chain, its name, its retrieval pointers.
+use Rattle.answer.specs.declared.types.Run.{Run}
 use Rattle.std.specs.Prelude.{List, ℕ, ltb}
 use Rattle.answer.specs.declared.refusal.Refusal.TheVariants as refusal
-use Rattle.answer.specs.declared.outcome.Outcome.{Outcome}
-use Rattle.answer.specs.declared.outcome.Outcome.TheVariants as outcome
-use Rattle.answer.specs.declared.answers.RunAnswer.{RunAnswer}
-use Rattle.answer.specs.Outcome.{unless, ◌then◌}
-use Rattle.answer.specs.Answers.{run_answer}
+use Rattle.answer.specs.Outcome.{unless, ◌then◌, Outcome, Answer}
+use Rattle.answer.specs.Answers.{answer_of, run_answer}
 use Rattle.header.specs.Fields.{h_fseq, segment, m_efnu, m_efsq}
 use Rattle.header.specs.Ident.{ident_name}
 use Rattle.pointers.specs.Pointers.{pointer_lbn, pointer_count, pointers, pointer_at}
@@ -13,8 +11,6 @@ use Rattle.volume.specs.Volume.{header}
 use Rattle.volume.specs.Opening.{open_volume}
 use Rattle.chains.specs.Finding.{find_number}
 use Rattle.header_facts.specs.declared.types.Header.{Header}
-use Rattle.header_facts.specs.declared.types.HeaderAnswer.{HeaderAnswer}
-use Rattle.header_facts.specs.declared.types.HeaderAnswer.TheVariants as headers
 
 -- Every call on a volume opens it first; 01, Answer numbers: 1 to 5, then 7 and 8.
 unfoldable pub find_header : List ℕ → ℕ → Outcome
@@ -31,13 +27,9 @@ facts_of h = record {
   name = ident_name h;
 }
 
-unfoldable pub header_by : Outcome → Header → HeaderAnswer
-header_by outcome.Passed f = headers.Done f
-header_by (outcome.Refused r) f = headers.Refused r
-
 -- What the header in the slot of number n says.
-unfoldable pub header_answer : List ℕ → ℕ → HeaderAnswer
-header_answer image n = header_by (find_header image n) (facts_of (header image n))
+unfoldable pub header_answer : List ℕ → ℕ → Answer Header
+header_answer image n = answer_of (find_header image n) (facts_of (header image n))
 
 -- ABSENT past the last retrieval pointer in use.
 unfoldable pub find_pointer : List ℕ → ℕ → ℕ → Outcome
@@ -45,7 +37,7 @@ find_pointer image n p = find_header image n then unless (ltb p (pointers (heade
 
 -- The first LBN that retrieval pointer p of the header in the slot of number n covers, and how many it covers. 01, The header: "count c covers c+1
 -- blocks".
-unfoldable pub pointer_answer : List ℕ → ℕ → ℕ → RunAnswer
+unfoldable pub pointer_answer : List ℕ → ℕ → ℕ → Answer Run
 pointer_answer image n p =
     let h = header image n in
     run_answer (find_pointer image n p) (pointer_lbn h (pointer_at h p)) (pointer_count h (pointer_at h p))

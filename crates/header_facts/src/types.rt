@@ -1,5 +1,4 @@
 // What a header says, as types.
-use answer::refusal::Refusal;
 use answer::types::Name;
 
 // What a header says.
@@ -17,11 +16,4 @@ pub struct Header {
     pub pointers: u32,
     // The name in the ident area.
     pub name: Name,
-}
-
-// The answer of asking what a header says.
-#[derive(Clone, Copy)]
-pub enum HeaderAnswer {
-    Done(Header),
-    Refused(Refusal),
 }

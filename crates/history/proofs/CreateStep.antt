@@ -1,4 +1,5 @@
 -- What a create that is not refused does to a good image.
+use Rattle.std.specs.Prelude.{Ok}
 use mathlib.Core.Path.{◌≡◌, refl, sym, ap, ◌∙◌}
 use mathlib.Core.Bool.{true, false, false≢true}
 use mathlib.Core.List.{List}
@@ -7,7 +8,6 @@ use native.Mathlib.Omega.{arith}
 use native.Mathlib.Decide.{ℕ_discrete}
 use lib.ListN.{length}
 use Rattle.answer.specs.declared.types.Name.{Name}
-use Rattle.answer.specs.declared.outcome.Outcome.TheVariants.{Passed}
 use Rattle.header.specs.Fields.{h_fseq}
 use Rattle.home.specs.Home.{blocks}
 use Rattle.volume.specs.Volume.{slots, header, in_use}
@@ -27,7 +27,7 @@ use Rattle.history.specs.Calls.{create, Words}
 use Rattle.history.proofs.Step.{Step}
 
 module _ (image : List ℕ) (g : Good image) (name : Name) (owner protection : ℕ) (area headers : List ℕ) (w : Words (create name owner protection area headers))
-    (p : create_outcome image name (length area) (length headers) ≡ Passed) where
+    (p : create_outcome image name (length area) (length headers) ≡ Ok tt) where
   abbrev n : ℕ
   n = spare_number image
 

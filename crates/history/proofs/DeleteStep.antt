@@ -1,4 +1,5 @@
 -- What a delete that is not refused does to a good image.
+use Rattle.std.specs.Prelude.{Ok}
 use mathlib.Core.Path.{◌≡◌, sym, ap, ◌∙◌}
 use mathlib.Core.Bool.{true, false, false≢true}
 use mathlib.Core.List.{List}
@@ -8,7 +9,6 @@ use native.Mathlib.Decide.{dec_lt}
 use lib.ListN.{length}
 use Rattle.image.proofs.BlockLaws.{block-bytes}
 use Rattle.answer.specs.declared.types.FileId.{FileId}
-use Rattle.answer.specs.declared.outcome.Outcome.TheVariants.{Passed}
 use Rattle.header.specs.Fields.{h_fseq}
 use Rattle.volume.specs.Volume.{slot, slots, header, in_use}
 use Rattle.chains.specs.Chains.{chain_of}
@@ -27,7 +27,7 @@ use Rattle.history.proofs.Step.{Step}
 use Rattle.history.proofs.OpenLaws.{first-in}
 use Rattle.history.proofs.ExtendStep.{opened-sequence}
 
-module _ (image : List ℕ) (g : Good image) (id : FileId) (area headers : List ℕ) (p : delete_outcome image id (length area) (length headers) ≡ Passed) where
+module _ (image : List ℕ) (g : Good image) (id : FileId) (area headers : List ℕ) (p : delete_outcome image id (length area) (length headers) ≡ Ok tt) where
   abbrev l : List ℕ
   l = chain_of image id.number
 

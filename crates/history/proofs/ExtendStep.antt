@@ -1,4 +1,5 @@
 -- What an extend that is not refused does to a good image.
+use Rattle.std.specs.Prelude.{Ok}
 use mathlib.Core.Path.{◌≡◌, sym, ap, ◌∙◌}
 use mathlib.Core.Bool.{false≢true}
 use mathlib.Core.List.{List}
@@ -7,7 +8,6 @@ use native.Mathlib.Omega.{arith}
 use native.Mathlib.Decide.{ℕ_discrete}
 use lib.ListN.{length}
 use Rattle.answer.specs.declared.types.FileId.{FileId}
-use Rattle.answer.specs.declared.outcome.Outcome.TheVariants.{Passed}
 use Rattle.header.specs.Fields.{h_fseq}
 use Rattle.volume.specs.Volume.{slots, header}
 use Rattle.chains.specs.Chains.{chain_of, last_number}
@@ -29,7 +29,7 @@ use Rattle.history.proofs.Step.{Step}
 pub opened-sequence : (image : List ℕ) (id : FileId) (f : ℕ) → h_fseq (header image id.number) ≡ id.sequence → f ≡ id.number → h_fseq (header image f) ≡ id.sequence
 opened-sequence image id f q e = ap (λ (k : ℕ). h_fseq (header image k)) e ∙ q
 
-module _ (image : List ℕ) (g : Good image) (id : FileId) (c : ℕ) (area headers : List ℕ) (p : extend_outcome image id c (length area) (length headers) ≡ Passed) where
+module _ (image : List ℕ) (g : Good image) (id : FileId) (c : ℕ) (area headers : List ℕ) (p : extend_outcome image id c (length area) (length headers) ≡ Ok tt) where
   abbrev n : ℕ
   n = last_number image id.number
 

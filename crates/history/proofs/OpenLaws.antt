@@ -1,4 +1,5 @@
 -- Files of a usable image open: each link of a chain is good, so that only the ID and the flags can refuse.
+use Rattle.std.specs.Prelude.{Ok, Err}
 use mathlib.Core.Path.{◌≡◌, refl, ◌∙◌}
 use mathlib.Core.Bool.{Bool, true, false}
 use mathlib.Core.List.{List, [], ◌∷◌}
@@ -7,7 +8,6 @@ use native.Mathlib.Omega.{arith}
 use borrow.Author.Tests.{le-leb}
 use Rattle.answer.specs.declared.types.FileId.{FileId}
 use Rattle.answer.specs.declared.refusal.Refusal.TheVariants as refusal
-use Rattle.answer.specs.declared.outcome.Outcome.TheVariants.{Passed, Refused}
 use Rattle.header.specs.Fields.{h_fseq}
 use Rattle.volume.specs.Volume.{slots, has_slot, header, in_use, is_number}
 use Rattle.volume.proofs.VolumeLaws.{opens-all}
@@ -49,15 +49,15 @@ module _ (image : List ℕ) (g : Usable image) where
     opening : open_by gate image id ≡ open_on gate image id
     opening = by-on gate image id (opens-all image g.opens)
 
-    pub open-unused : in_use image id.number ≡ false → open_by gate image id ≡ Refused refusal.Number
+    pub open-unused : in_use image id.number ≡ false → open_by gate image id ≡ Err refusal.Number
     unfolding is_number
     open-unused u = opening ∙ on-unfound gate image id refusal.Number (find-unfound image id v refusal.Number (find-number image id.number (rw u)))
 
-    pub open-stale : in_use image id.number ≡ true → (h_fseq (header image id.number) ≡ id.sequence → ⊥) → open_by gate image id ≡ Refused refusal.Sequence
+    pub open-stale : in_use image id.number ≡ true → (h_fseq (header image id.number) ≡ id.sequence → ⊥) → open_by gate image id ≡ Err refusal.Sequence
     open-stale u ne = opening ∙ on-unfound gate image id refusal.Sequence (find-sequence image id v (find-passed image id.number (used-number id.number u) (g.safe.whole id.number u)) ne)
 
-    pub open-file : IsFile image id.number → h_fseq (header image id.number) ≡ id.sequence → gate (header image id.number) ≡ Passed
-        → locked (header image id.number) ≡ false → open_by gate image id ≡ Passed
+    pub open-file : IsFile image id.number → h_fseq (header image id.number) ≡ id.sequence → gate (header image id.number) ≡ Ok tt
+        → locked (header image id.number) ≡ false → open_by gate image id ≡ Ok tt
     open-file file q admitted unlocked =
         let n = id.number in
         opening

@@ -1,4 +1,5 @@
 -- What is read back after a call that is DONE.
+use Rattle.std.specs.Prelude.{Ok}
 use mathlib.Core.Path.{◌≡◌, refl, sym, ap, ◌∙◌}
 use mathlib.Core.Bool.{true, false, false≢true}
 use mathlib.Core.List.{List, [], ◌++◌}
@@ -10,10 +11,8 @@ use lib.ListN.{length-append}
 use Rattle.lists.specs.Lists.{numbers_from}
 use Rattle.lists.proofs.NumbersLaws.{numbers_from-length}
 use Rattle.answer.specs.declared.types.FileId.{FileId}
-use Rattle.answer.specs.declared.outcome.Outcome.TheVariants.{Passed}
-use Rattle.answer.specs.declared.answers.CountAnswer.TheVariants as counts
-use Rattle.answer.specs.Answers.{count_answer}
-use Rattle.answer.proofs.AnswerLaws.{done-lbn, done-id, done-bare}
+use Rattle.answer.specs.Answers.{answer_of}
+use Rattle.answer.proofs.AnswerLaws.{done-answer, done-lbn}
 use Rattle.header.specs.Fields.{h_fseq, user_flags, system_flags, segment, m_efnu}
 use Rattle.pointers.specs.Pointers.{blocks_of}
 use Rattle.volume.specs.Volume.{header, in_use}
@@ -55,8 +54,8 @@ unfolding locked
 locked-same h h' u s = rw (u, s)
 
 -- The answer of opening a file that opens.
-open_done : (image : List ℕ) (id : FileId) (k : ℕ) → open_file image id ≡ Passed → length (file_blocks image id.number) ≡ k → open_file_answer image id ≡ counts.Done k
-unfolding open_file_answer count_answer
+open_done : (image : List ℕ) (id : FileId) (k : ℕ) → open_file image id ≡ Ok tt → length (file_blocks image id.number) ≡ k → open_file_answer image id ≡ Ok k
+unfolding open_file_answer answer_of
 open_done image id k o e = rw (o, e) refl
 
 -- A file of one header that covers nothing has no blocks.
@@ -68,7 +67,7 @@ module _ (image : List ℕ) (g : Good image) where
   after-create : AfterCreate image
   unfolding create_answer new_id new_sequence
   after-create name owner protection area headers w id e =
-      let d = done-id (create_outcome image name (length area) (length headers)) (new_id image) id e in
+      let d = done-answer (create_outcome image name (length area) (length headers)) (new_id image) id e in
       let p = d.0 in
       let c = creating.creating image g name owner protection area headers w p in
       let z = creating.z image g name owner protection area headers w p in
@@ -76,7 +75,7 @@ module _ (image : List ℕ) (g : Good image) where
       let new = new_id image in
       let h = create-header c in
       let file : IsFile z new.number = record { used = (create-effect c).is; first = (create-effect c).first } in
-      let opens : open_file z new ≡ Passed =
+      let opens : open_file z new ≡ Ok tt =
       open-file z (good-usable s.good) anyone new refl file (ap h_fseq h ∙ c.fresh.fseq) (anyone-passed _) (ap locked h ∙ unlocked _ c.fresh.user c.fresh.system) in
       let none : file_blocks z new.number ≡ [] = no_blocks z new.number (create-effect c).unlinked (create-effect c).empty in
       rw (create-passes image name owner protection (length area) (length headers) p, creating.create-file image g name owner protection area headers w p, ← d.1)
@@ -85,7 +84,7 @@ module _ (image : List ℕ) (g : Good image) where
   after-delete : AfterDelete image
   unfolding delete_answer
   after-delete id area headers e =
-      let p = done-bare (delete_outcome image id (length area) (length headers)) e in
+      let p = e in
       let d = deleting.deleting image g id area headers p in
       let f = deleting.facts image g id area headers p in
       let s = deleting.delete-step image g id area headers p in
@@ -103,7 +102,7 @@ module _ (image : List ℕ) (g : Good image) where
       } in
       rw (delete-passes image id (length area) (length headers) p) (gone, λ calls w. spent-gone (image_after calls z) id (good-usable (after-good calls z s.good w)) f.opens.found.relvol (after-spent calls z id s.good w spent))
 
-  module _ (id : FileId) (c : ℕ) (area headers : List ℕ) (p : extend_outcome image id c (length area) (length headers) ≡ Passed) where
+  module _ (id : FileId) (c : ℕ) (area headers : List ℕ) (p : extend_outcome image id c (length area) (length headers) ≡ Ok tt) where
     abbrev f : ℕ
     f = id.number
 
@@ -160,14 +159,14 @@ module _ (image : List ℕ) (g : Good image) where
         ∙ file-grow image g.bytes g.sound.safe (header z) (numbers_from s c) f file
         (λ k m ne. effect.headers k (member-used image g.sound.safe f file k m) ne) effect.more
 
-    opens : open_file z id ≡ Passed
+    opens : open_file z id ≡ Ok tt
     opens =
         let o = (extending.facts image g id c area headers p).opens in
         let good = (extending.extend-step image g id c area headers p).good in
         open-file z (good-usable good) anyone id o.found.relvol (record { used = effect.used f ∙ file.used; first = first.seg ∙ file.first })
         (first.word ∙ o.found.sequence) (anyone-passed _) (first.lock ∙ o.unlocked)
 
-    extend-reads : (open_file_answer z id ≡ counts.Done (length (file_blocks image f) + c)) × (file_blocks z f ≡ file_blocks image f ++ numbers_from s c)
+    extend-reads : (open_file_answer z id ≡ Ok (length (file_blocks image f) + c)) × (file_blocks z f ≡ file_blocks image f ++ numbers_from s c)
     extend-reads =
         let long : length (file_blocks z f) ≡ length (file_blocks image f) + c =
         ap length grows ∙ length-append (file_blocks image f) (numbers_from s c) ∙ omega (arith, numbers_from-length s c) in

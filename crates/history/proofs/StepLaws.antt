@@ -1,12 +1,12 @@
 -- One call on a good image: refused it changes nothing, and else it does what its definition says.
+use Rattle.answer.specs.Outcome.{Outcome}
+use Rattle.std.specs.Prelude.{Ok, Err}
 use mathlib.Core.Path.{◌≡◌, refl, sym, subst, ◌∙◌}
 use mathlib.Core.Bool.{false≢true}
 use mathlib.Core.List.{List}
 use Prim.Native.Nat.{ℕ}
 use native.Mathlib.Omega.{arith}
 use lib.ListN.{length}
-use Rattle.answer.specs.declared.outcome.Outcome.{Outcome}
-use Rattle.answer.specs.declared.outcome.Outcome.TheVariants.{Passed, Refused}
 use Rattle.update.proofs.Effects.{Good}
 use Rattle.update.proofs.DoneLaws.{create-passes, create-refused, extend-passes, extend-refused, delete-passes, delete-refused}
 use Rattle.history.specs.Calls.{Call, create, extend, delete, outcome_of, step, Words}
@@ -37,7 +37,7 @@ step-none call image g = record {
   others = λ k out. refl;
 }
 
-passed-step : (call : Call) (image : List ℕ) → Good image → Words call → outcome_of call image ≡ Passed → Step call image (step call image)
+passed-step : (call : Call) (image : List ℕ) → Good image → Words call → outcome_of call image ≡ Ok tt → Step call image (step call image)
 unfolding outcome_of step
 passed-step (create name owner protection area headers) image g w p =
     rw (create-passes image name owner protection (length area) (length headers) p, create-file image g name owner protection area headers w p)
@@ -51,5 +51,5 @@ pub step_is : (call : Call) (image : List ℕ) → Good image → Words call →
 step_is call image g w = go (outcome_of call image) refl
   where
     go : (o : Outcome) → outcome_of call image ≡ o → Step call image (step call image)
-    go Passed e = passed-step call image g w e
-    go (Refused r) e = subst (Step call image) (sym (refused-keeps call image r e)) (step-none call image g)
+    go (Ok tt) e = passed-step call image g w e
+    go (Err r) e = subst (Step call image) (sym (refused-keeps call image r e)) (step-none call image g)

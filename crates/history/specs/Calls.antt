@@ -1,8 +1,8 @@
 -- Lists of create, extend and delete calls, each on the image that the last one left.
+use Rattle.answer.specs.Outcome.{Outcome}
 use Rattle.std.specs.Prelude.{◌≡◌, List, [], ◌∷◌, ℕ, ◌<◌, length}
 use Rattle.answer.specs.declared.types.FileId.{FileId}
 use Rattle.answer.specs.declared.types.Name.{Name}
-use Rattle.answer.specs.declared.outcome.Outcome.{Outcome}
 use Rattle.update.specs.Create.{create_outcome, create_image}
 use Rattle.update.specs.Extend.{extend_outcome, extend_image}
 use Rattle.update.specs.Delete.{delete_outcome, delete_image}

@@ -1,9 +1,8 @@
 -- What a call leaves as it was.
-use Rattle.std.specs.Prelude.{◌≡◌, List, ℕ, ◌+◌, ◌/◌, ◌≤◌, ◌<◌, length}
+use Rattle.std.specs.Prelude.{◌≡◌, List, ℕ, ◌+◌, ◌/◌, ◌≤◌, ◌<◌, length, Ok, Err}
 use Rattle.image.specs.Words.{Bytes}
 use Rattle.image.specs.Blocks.{block}
 use Rattle.answer.specs.declared.refusal.Refusal.{Refusal}
-use Rattle.answer.specs.declared.outcome.Outcome.TheVariants.{Passed, Refused}
 use Rattle.header.specs.Fields.{h_fseq}
 use Rattle.volume.specs.Volume.{iblb, slot, slots, header, base, volume_of, places_of}
 use Rattle.volume.specs.Opening.{open_volume}
@@ -17,7 +16,7 @@ use Rattle.history.specs.Claims.{Accepted}
 
 -- 00, 1: "A refused call changes no byte of the image". This holds of every image.
 abbrev pub RefusedKeeps : Type 0
-RefusedKeeps = (call : Call) (image : List ℕ) (r : Refusal) → outcome_of call image ≡ Refused r → step call image ≡ image
+RefusedKeeps = (call : Call) (image : List ℕ) (r : Refusal) → outcome_of call image ≡ Err r → step call image ≡ image
 
 -- Block k has bit j of a map that begins at LBN `from`. A block has 4,096 bits.
 abbrev pub HasBit : ℕ → ℕ → ℕ → Type 0
@@ -45,7 +44,7 @@ WritesBounded = (image : List ℕ) → Bytes image → Accepted image → (call 
 
 -- No list of calls changes how the volume opens, and the sequence word of no slot ever falls.
 pub record Steady (image : List ℕ) (calls : List Call) : Type 0 where
-  pub opens : open_volume (image_after calls image) ≡ Passed
+  pub opens : open_volume (image_after calls image) ≡ Ok tt
   pub volume : volume_of (image_after calls image) ≡ volume_of image
   pub places : places_of (image_after calls image) ≡ places_of image
   pub slotted : slots (image_after calls image) ≡ slots image

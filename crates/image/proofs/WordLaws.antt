@@ -1,5 +1,5 @@
 -- Laws of bytes and words.
-use Rattle.std.proofs.Common.{◌≡◌, ℕ, ◌+◌, ◌/◌, ◌%◌, ◌<◌, ◌≤◌, List, length, arith}
+use Rattle.std.proofs.Common.{◌≡◌, ℕ, ◌+◌, ◌/◌, ◌%◌, ◌<◌, List, length, arith}
 use native.Mathlib.Decide.{dec_lt}
 use lib.ListN.{get_or-eq_default}
 use Rattle.image.specs.Words.{byte_at, Bytes, word_at}
@@ -11,10 +11,6 @@ byte_inside b at x e h = go (dec_lt at (length b))
     go : Dec (at < length b) → at < length b
     go (yes l) = l
     go (no l) = absurd (omega (arith, get_or-eq_default b 0 {n = at} (omega arith)))
-
-pub word-past : (b : List ℕ) (at : ℕ) → length b ≤ at → word_at b at ≡ 0
-unfolding word_at
-word-past b at h = omega (arith, get_or-eq_default b 0 h, get_or-eq_default b 0 {n = at + 1} (omega arith))
 
 -- The same bytes make the same word.
 pub word_same : (b b' : List ℕ) (at at' : ℕ) → byte_at b at ≡ byte_at b' at' → byte_at b (at + 1) ≡ byte_at b' (at' + 1) → word_at b at ≡ word_at b' at'

@@ -5,6 +5,7 @@ ghost use Rattle.image.specs.Blocks.{region, block};
 use answer::types::Lbn;
 
 // The q blocks from an LBN on; fewer bytes, or none, where the image ends before.
+#[tactic(auto, unfolding(crate::specs::Blocks::region))]
 pub fn region(image: &[u8], lbn: Lbn, q: u32) -> &[u8]
     ensures { result.now ≡ region image.now lbn.0 q }
 {
@@ -22,6 +23,7 @@ pub fn region(image: &[u8], lbn: Lbn, q: u32) -> &[u8]
 }
 
 // The block with an LBN; fewer bytes, or none, where the image ends before.
+#[tactic(auto, unfolding(crate::specs::Blocks::region, crate::specs::Blocks::block))]
 pub fn block(image: &[u8], lbn: Lbn) -> &[u8]
     ensures { result.now ≡ block image.now lbn.0 }
 {

@@ -4,6 +4,5 @@
 
 pub mod bits;
 pub mod blocks;
-pub mod numbers;
 pub mod sums;
 pub mod words;

@@ -10,15 +10,14 @@ pub fn checksum_on(b: &[u8], known: u16, from: usize, n: usize) -> u16
     ensures { result ≡ checksum b.now n }
 {
     let mut sum = known;
-    let mut i = from;
-    while i < n {
-        sum = std::num::wrapping_add_u16(sum, word_at(b, 2 * i));
-        i += 1;
+    for i in from..n {
+        sum = sum.wrapping_add(word_at(b, 2 * i));
     }
     sum
 }
 
 // The sum of the first n words, kept to 16 bits.
+#[tactic(auto, unfolding(crate::specs::Sums::checksum, crate::specs::Sums::word_sum))]
 pub fn checksum(b: &[u8], n: usize) -> u16
     requires { 2 * n ≤ length b.now }
     ensures { result ≡ checksum b.now n }

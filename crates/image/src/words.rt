@@ -9,27 +9,22 @@ pub fn byte_or_zero(b: &[u8], at: usize) -> u8
     if at < b.len() { b[at] } else { 0 }
 }
 
-// A byte as a word.
-fn wide(x: u8) -> u16
-    ensures { (result ≡ x) × (result < 256) }
-{
-    x as u16
-}
-
 // The word at a place, both of whose bytes the list has.
+#[tactic(auto, unfolding(crate::specs::Words::word_at))]
 pub fn word_at(b: &[u8], at: usize) -> u16
     requires { at + 1 < length b.now }
     ensures { result ≡ word_at b.now at }
 {
-    wide(b[at]) + 256 * wide(b[at + 1])
+    u16::from(b[at]) + 256 * u16::from(b[at + 1])
 }
 
 // The word at a place; a byte past the end counts as 0.
+#[tactic(auto, unfolding(crate::specs::Words::word_at))]
 pub fn word_or_zero(b: &[u8], at: usize) -> u16
     ensures { result ≡ word_at b.now at }
 {
     if b.len() <= at {
         return 0;
     }
-    wide(byte_or_zero(b, at)) + 256 * wide(byte_or_zero(b, at + 1))
+    u16::from(byte_or_zero(b, at)) + 256 * u16::from(byte_or_zero(b, at + 1))
 }

@@ -1,6 +1,9 @@
 -- Laws of a walk along the index file's headers that keeps the places seen so far.
+use Rattle.std.specs.Prelude.{Some, None, Result, Ok, Err}
+use Rattle.std.specs.Result.{result_ok}
+use Rattle.answer.specs.declared.types.Lbn.{Lbn}
 use mathlib.Core.Path.{◌≡◌, refl, sym, ap, ◌∙◌}
-use mathlib.Core.Bool.{true, false, false≢true, and-false}
+use mathlib.Core.Bool.{true, false, and-false}
 use mathlib.Core.List.{List, [], ◌∷◌, ◌++◌, append_assoc}
 use Prim.Native.Nat.{ℕ, ◌+◌, ◌*◌, ◌-◌, ◌≤◌, ◌<◌}
 use native.Mathlib.Omega.{arith}
@@ -9,13 +12,13 @@ use lib.ListN.{length, get_or, take, set, length-append}
 use lib.Seq.{get_or-take}
 use Rattle.image.specs.Blocks.{block}
 use Rattle.image.specs.Stores.{zeros}
+use Rattle.image.proofs.BlockLaws.{block-length}
 use Rattle.header.specs.Fields.{m_efnu}
-use Rattle.pointers.specs.Pointers.{blocks_of}
+use Rattle.pointers.specs.Pointers.{blocks_of, place_in, flat}
 use Rattle.home.specs.Home.{blocks}
 use Rattle.volume.specs.Volume.{ibsz, iblb, in_use, part_slot, part_slots, follows, leads_on, places_from, places, index_ends, padded}
-use Rattle.pointers.specs.Pointers.{flat}
 use Rattle.volume.specs.Opening.{FirstFit, Walked}
-use Rattle.volume.proofs.IndexLaws.{Lies, lies-fits, AllLie, lie-none, lie-last, Inside, mapped-inside, mapped-last, leads-none, leads-lies, from_end, from_more, from_last, ends_last, padded-take, padded-length, padded-more}
+use Rattle.volume.proofs.IndexLaws.{Lies, lies-fits, AllLie, lie-none, lie-last, Inside, mapped-inside, mapped-last, leads-none, leads-lies, from_end, from_more, from_last, ends_last, padded-take, padded-length, padded-more, Found, found, leads-unused}
 
 -- A header leads on to what lies at a place of the part, and to nothing past it.
 module _ (image part h : List ℕ) (i : ℕ) (place : i ≡ 1 + ibsz image + m_efnu h) where
@@ -50,10 +53,6 @@ along-start image at e here = record {
   lie = lie-none image;
   here = here;
 }
-
--- What the walk answers where a link is bad.
-pub off : (image arr : List ℕ) → index_ends image ≡ false → Walked image 0 arr
-off image arr e = (rw e refl, λ p. absurd (false≢true (sym e ∙ p)))
 
 module _ (image arr : List ℕ) (count at : ℕ) (a : Along image arr count at) where
   -- The places with the one at hand, and what their headers map.
@@ -110,11 +109,11 @@ module _ (image arr : List ℕ) (count at : ℕ) (a : Along image arr count at) 
   pub along-full : (m_efnu (block image at) ≡ 0 → ⊥) → count + 1 ≡ 256 → index_ends image ≡ false
   along-full ne e = bad ne (full e)
 
-  pub along-end : m_efnu (block image at) ≡ 0 → Walked image (count + 1) (set arr count at)
+  pub along-end : m_efnu (block image at) ≡ 0 → Walked image (Some (count + 1)) (set arr count at)
   along-end e =
       let f = stops (leads-none image (flat (block image) seen) (block image at) e) in
       let ends : index_ends image ≡ true = ends_last image a.so at f ∙ eq-eqb (m_efnu (block image at)) 0 e in
-      (ne_eqb (count + 1) 0 (omega arith) ∙ rw ends refl, λ p. (rw f (sym seen-long), rw f along-stored))
+      (ends, rw f (sym seen-long), rw f along-stored)
 
   -- The walk comes to the header that the one at hand leads on to.
   pub along-next : leads_on image (flat (block image) seen) (block image at) ≡ true → count + 1 ≤ 255 → (next : ℕ)
@@ -134,3 +133,50 @@ module _ (image arr : List ℕ) (count at : ℕ) (a : Along image arr count at) 
         lie = along-lie;
         here = rw f (leads-lies image (flat (block image) seen) (block image at) along-inside e);
       }
+
+-- The header at hand links to number n, whose slot is at a place of the part that the headers up to it map.
+module _ (image arr : List ℕ) (count at m n : ℕ) (a : Along image arr count at) (size : length image ≡ 512 * blocks image) (mm : m ≡ ibsz image) (nn : n ≡ m_efnu (block image at)) (ne : n ≡ 0 → ⊥) where
+  linked : m_efnu (block image at) ≡ 0 → ⊥
+  linked z = ne (nn ∙ z)
+
+  abbrev mapped : List ℕ
+  mapped = flat (block image) (seen image arr count at a)
+
+  spot : 1 + m + n ≡ 1 + ibsz image + m_efnu (block image at)
+  spot = omega arith
+
+  pub walk-unused : in_use image n ≡ false → index_ends image ≡ false
+  walk-unused u = along-bad image arr count at a linked (leads-unused image mapped (block image at) (rw (← nn) u))
+
+  placed : (p : Result Lbn ℕ) (i : ℕ) → i ≡ 1 + m + n → p ≡ place_in (flat (block image) (take (count + 1) (set arr count at))) i → Found mapped [] (1 + m + n) p
+  placed p i e f =
+      found mapped [] (1 + m + n) p
+      (ap (λ (ls : List ℕ). place_in (flat (block image) ls) (1 + m + n)) (sym (along-take image arr count at a)) ∙ rw (← e) (sym f))
+
+  pub walk-past : (p : Result Lbn ℕ) (i : ℕ) → i ≡ 1 + m + n → p ≡ place_in (flat (block image) (take (count + 1) (set arr count at))) i → None ≡ result_ok p → index_ends image ≡ false
+  walk-past (Ok l) i e f none = absurd (cc)
+  walk-past (Err k) i e f none = along-bad image arr count at a linked (leads-past image mapped (block image at) (1 + m + n) spot linked (placed (Err k) i e f).0)
+
+  pub walk-found : (p : Result Lbn ℕ) (i : ℕ) → i ≡ 1 + m + n → p ≡ place_in (flat (block image) (take (count + 1) (set arr count at))) i → (l : Lbn) → Some l ≡ result_ok p
+      → (1 + m + n < length mapped) × (l.0 ≡ get_or mapped (1 + m + n) 0)
+  walk-found (Ok k) i e f l some =
+      let same : l ≡ k = cc in
+      let g = placed (Ok k) i e f in
+      (g.0, ap (λ (x : Lbn). x.0) same ∙ g.1)
+  walk-found (Err k) i e f l some = absurd (cc)
+
+  -- The block there.
+  module _ (l : Lbn) (f : (1 + m + n < length mapped) × (l.0 ≡ get_or mapped (1 + m + n) 0)) where
+    pub next-long : length (block image l.0) ≡ 512
+    next-long = block-length image l.0 (omega (arith, f.1, along-inside image arr count at a (1 + m + n) f.0, size))
+
+    leads : in_use image n ≡ true → leads_on image mapped (block image at) ≡ follows (blocks image) (block image at) (block image l.0)
+    leads u = leads-at image mapped (block image at) (1 + m + n) spot (rw (← nn) u) f.0 l.0 f.1
+
+    pub walk-off : in_use image n ≡ true → follows (blocks image) (block image at) (block image l.0) ≡ false → index_ends image ≡ false
+    walk-off u e = along-bad image arr count at a linked (leads u ∙ e)
+
+    pub walk-on : in_use image n ≡ true → follows (blocks image) (block image at) (block image l.0) ≡ true
+        → (count + 1 ≤ 255 → Along image (set arr count at) (count + 1) l.0) × (count + 1 ≡ 256 → index_ends image ≡ false)
+    walk-on u e =
+        (λ room. along-next image arr count at a (leads u ∙ e) room l.0 (f.1 ∙ ap (λ (i : ℕ). get_or mapped i 0) spot), λ full. along-full image arr count at a linked full)

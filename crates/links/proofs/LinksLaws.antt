@@ -1,4 +1,5 @@
 -- Laws of LINKS: the marks, what it says of a number by its tests one after the other, and what a volume has that passes it.
+use Rattle.std.specs.Prelude.{Ok, Err}
 use mathlib.Core.Path.{◌≡◌, refl, sym, ap, ◌∙◌}
 use mathlib.Core.Bool.{Bool, true, false, not, ◌&&◌, false≢true, and-false, and-true, cond, and-eq-true_iff}
 use mathlib.Core.List.{List, [], ◌∷◌, ◌++◌}
@@ -7,8 +8,8 @@ use native.Mathlib.Decide.{ℕ_discrete, dec_le}
 use native.Mathlib.Omega.{arith}
 use borrow.Author.Tests.{not-false, eq-eqb, ne_eqb, le-leb, lt-leb}
 use lib.Dec.{eqb, leb}
+use Rattle.answer.specs.declared.refusal.Refusal.TheVariants as refusal
 use Rattle.image.specs.Blocks.{block}
-use Rattle.answer.specs.declared.outcome.Outcome.TheVariants.{Passed}
 use Rattle.header.specs.Fields.{h_fseq, segment, m_efnu, m_efsq}
 use Rattle.volume.specs.Volume.{follows, fmax, header, fault_of, in_use, has_slot, is_number}
 use Rattle.chains.specs.Chains.{good_link}
@@ -20,7 +21,7 @@ use Rattle.slots.specs.declared.SlotRun.{SlotRun}
 use Rattle.slots.specs.Slots.{Stands, gathered}
 use Rattle.slots.proofs.SlotLaws.{stands_read, used-range, gathered_none, gathered-used, gathered-unused}
 use Rattle.links.specs.Links.{link_of, linked, raised_link, links_wanted, bad_links, links_place, links}
-use Rattle.files.proofs.SearchLaws.{search-passed, search-all}
+use Rattle.files.proofs.SearchLaws.{search-passed, search-all, search-none, search-refused}
 use Rattle.files.proofs.FileLaws.{FilesPassed}
 
 -- Marks that are made anew.
@@ -45,17 +46,9 @@ module _ (l : List ℕ) (k : ℕ) (area : List ℕ) where
       go (yes a) (no b) = rw (le-leb 1 t a, lt-leb t k (omega arith)) (tallied-other l 1 k area t (omega arith))
       go (no a) b = rw (lt-leb 1 t (omega arith)) (tallied-other l 1 k area t (omega arith))
 
-pub raised-low : (area : List ℕ) (k t : ℕ) → t < 1 → raised_link area k t ≡ area
+raised-low : (area : List ℕ) (k t : ℕ) → t < 1 → raised_link area k t ≡ area
 unfolding raised_link
 raised-low area k t h = rw (lt-leb 1 t h)
-
-pub raised-out : (area : List ℕ) (k t : ℕ) → k < t → raised_link area k t ≡ area
-unfolding raised_link
-raised-out area k t h = rw (lt-leb t k h, and-false)
-
-pub raised-in : (area : List ℕ) (k t : ℕ) → 1 ≤ t → t ≤ k → raised_link area k t ≡ raised area (t - 1)
-unfolding raised_link
-raised-in area k t l h = rw (le-leb 1 t l, le-leb t k h)
 
 -- The marks before the first number, and one number more.
 module _ (image : List ℕ) (k : ℕ) (area : List ℕ) where
@@ -125,7 +118,7 @@ pub record LinksPassed (image : List ℕ) : Type 0 where
   pub times : (n : ℕ) → in_use image n ≡ true → count n (linked image) ≡ links_wanted (header image n)
 
 module _ (image : List ℕ) where
-  pub links-passed : links image ≡ Passed → LinksPassed image
+  pub links-passed : links image ≡ Ok tt → LinksPassed image
   unfolding links links_place
   links-passed e = record { good = λ n u. good n u (times n u); times = times }
     where
@@ -142,10 +135,19 @@ module _ (image : List ℕ) where
       good : (n : ℕ) → in_use image n ≡ true → count n (linked image) ≡ links_wanted (header image n) → good_link image (header image n) ≡ true
       good n u q = not-false (good_link image (header image n)) (sym (link-counted image (linked image) n u q) ∙ none n u)
 
-  pub links-all : LinksPassed image → links image ≡ Passed
+  pub links-all : LinksPassed image → links image ≡ Ok tt
   unfolding links links_place
   links-all p = search-all (bad_links image (linked image)) 1 (fmax image) _ (λ n l h. go n (in_use image n) refl)
     where
       go : (n : ℕ) (t : Bool) → in_use image n ≡ t → bad_links image (linked image) n ≡ false
       go n true u = rw (link-counted image (linked image) n u (p.times n u), p.good n u)
       go n false u = link-unused image (linked image) n u
+
+  -- What LINKS comes to by the place that is found.
+  pub links-good : links_place image ≡ fmax image + 1 → links image ≡ Ok tt
+  unfolding links links_place
+  links-good e = search-none (bad_links image (linked image)) 1 (fmax image) _ (omega (arith, e))
+
+  pub links-refused : (n : ℕ) → links_place image ≡ n → n ≤ fmax image → links image ≡ Err (refusal.Links n)
+  unfolding links links_place
+  links-refused n e l = rw (← e) (search-refused (bad_links image (linked image)) 1 (fmax image) _ (omega (arith, e)))

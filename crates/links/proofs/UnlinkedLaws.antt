@@ -1,4 +1,5 @@
 -- A volume whose headers in use are each the only one of their file passes LINKS, with no number linked.
+use Rattle.std.specs.Prelude.{Ok}
 use mathlib.Core.Path.{◌≡◌, refl, ◌∙◌}
 use mathlib.Core.Bool.{Bool, true, false}
 use mathlib.Core.List.{List, [], ◌∷◌}
@@ -8,7 +9,6 @@ use native.Mathlib.Omega.{arith}
 use borrow.Author.Tests.{eq-eqb}
 use Rattle.lists.specs.Counts.{count}
 use Rattle.lists.proofs.CountLaws.{count_none, count-skip, count-append}
-use Rattle.answer.specs.declared.outcome.Outcome.TheVariants.{Passed}
 use Rattle.header.specs.Fields.{segment}
 use Rattle.volume.specs.Volume.{fmax, header, in_use}
 use Rattle.slots.specs.Slots.{gathered}
@@ -34,7 +34,7 @@ module _ (image : List ℕ) (p : Unlinked image) where
           (omega (arith, count-append x (gathered image link_of k) (0 ∷ []), before, count-skip x 0 [] (λ z. omega arith), count_none x))
       go before false u = rw (gathered-unused image link_of k u) before
 
-  pub unlinked-links : links image ≡ Passed
+  pub unlinked-links : links image ≡ Ok tt
   unfolding linked links_wanted
   unlinked-links = links-all image (record {
     good = λ n u. link-end image (header image n) (p.ends n u);

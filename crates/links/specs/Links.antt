@@ -3,8 +3,7 @@ use Rattle.std.specs.Prelude.{Bool, cond, not, ◌&&◌, List, [], ◌∷◌, �
 use Rattle.lists.specs.First.{first}
 use Rattle.lists.specs.Counts.{count}
 use Rattle.answer.specs.declared.refusal.Refusal.TheVariants as refusal
-use Rattle.answer.specs.declared.outcome.Outcome.{Outcome}
-use Rattle.answer.specs.Outcome.{unless}
+use Rattle.answer.specs.Outcome.{unless, Outcome}
 use Rattle.header.specs.Fields.{segment, m_efnu}
 use Rattle.volume.specs.Volume.{fmax, header, in_use}
 use Rattle.slots.specs.Slots.{gathered}

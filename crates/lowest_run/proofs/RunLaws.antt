@@ -1,4 +1,5 @@
 -- Laws of the lowest run of free blocks.
+use Rattle.std.specs.Prelude.{Some, None}
 use mathlib.Core.Path.{◌≡◌}
 use mathlib.Core.Bool.{true, false}
 use mathlib.Core.List.{List}
@@ -10,7 +11,6 @@ use Rattle.lists.specs.First.{first}
 use Rattle.lists.proofs.BelowLaws.{below_none, below_more, below_fails}
 use Rattle.lists.proofs.FirstLaws.{first-is}
 use Rattle.lowest_run.specs.Runs.{is_free, is_run, starts, lowest_start, start_of}
-use Rattle.lowest_run.specs.declared.Start.TheVariants.{At, Missing}
 
 -- A run grows by one free block after another.
 pub run_none : (map : List ℕ) (s : ℕ) → is_run map 0 s ≡ true
@@ -30,14 +30,14 @@ run-broken map c t j low high used =
 
 -- The start found is the lowest.
 module _ (map : List ℕ) (n c : ℕ) where
-  pub start-found : (s : ℕ) → 1 ≤ c → s + c ≤ n → ((t : ℕ) → t < s → is_run map c t ≡ false) → is_run map c s ≡ true → start_of map n c ≡ At (record { 0 = s })
+  pub start-found : (s : ℕ) → 1 ≤ c → s + c ≤ n → ((t : ℕ) → t < s → is_run map c t ≡ false) → is_run map c s ≡ true → start_of map n c ≡ Some (record { 0 = s })
   unfolding start_of lowest_start starts
   start-found s some fits before here =
       let e : first (is_run map c) 0 (n + 1 - c) ≡ s =
       first-is (is_run map c) 0 (n + 1 - c) s (record { low = omega arith; high = omega arith; before = λ i a b. before i b; here = λ l. here }) in
       rw (e, lt-ltb s (n + 1 - c) (omega arith))
 
-  pub start-missing : ((t : ℕ) → t + c ≤ n → is_run map c t ≡ false) → start_of map n c ≡ Missing
+  pub start-missing : ((t : ℕ) → t + c ≤ n → is_run map c t ≡ false) → start_of map n c ≡ None
   unfolding start_of lowest_start starts
   start-missing without =
       let e : first (is_run map c) 0 (n + 1 - c) ≡ n + 1 - c =

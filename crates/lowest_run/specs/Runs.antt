@@ -1,9 +1,8 @@
 -- The lowest run of free blocks.
-use Rattle.std.specs.Prelude.{Bool, cond, List, ℕ, ◌+◌, ◌-◌, ltb}
+use Rattle.answer.specs.declared.types.Lbn.{Lbn}
+use Rattle.std.specs.Prelude.{Bool, cond, List, ℕ, ◌+◌, ◌-◌, ltb, Some, None, Option}
 use Rattle.lists.specs.First.{first, below}
 use Rattle.image.specs.Bits.{is_set}
-use Rattle.lowest_run.specs.declared.Start.{Start}
-use Rattle.lowest_run.specs.declared.Start.TheVariants.{At, Missing}
 
 -- Block s + i is free by the storage map. 01, Storage map file: "set means free".
 unfoldable pub is_free : List ℕ → ℕ → ℕ → Bool
@@ -22,5 +21,5 @@ unfoldable pub lowest_start : List ℕ → ℕ → ℕ → ℕ
 lowest_start map n c = first (is_run map c) 0 (starts n c)
 
 -- The lowest start, if there is one.
-unfoldable pub start_of : List ℕ → ℕ → ℕ → Start
-start_of map n c = cond (ltb (lowest_start map n c) (starts n c)) (At (record { 0 = lowest_start map n c })) Missing
+unfoldable pub start_of : List ℕ → ℕ → ℕ → Option Lbn
+start_of map n c = cond (ltb (lowest_start map n c) (starts n c)) (Some (record { 0 = lowest_start map n c })) None

@@ -2,7 +2,7 @@
 use mathlib.Core.Path.{◌≡◌, refl, sym, ap, ◌∙◌}
 use mathlib.Core.Bool.{true}
 use mathlib.Core.List.{List}
-use Prim.Native.Nat.{ℕ, zero, suc, ◌+◌, ◌*◌, ◌≤◌, ◌<◌}
+use Prim.Native.Nat.{ℕ, zero, suc, ◌+◌, ◌-◌, ◌*◌, ◌≤◌, ◌<◌}
 use native.Mathlib.Nat.{add-zero}
 use native.Mathlib.Omega.{arith}
 use borrow.Author.Tests.{eqb-true}
@@ -11,9 +11,9 @@ use lib.Count.{ones}
 use Rattle.lists.specs.First.{below}
 use Rattle.lists.proofs.BelowLaws.{below_at}
 use Rattle.lists.specs.Counts.{how_many}
-use Rattle.lists.proofs.CountLaws.{how_many-next}
+use Rattle.lists.proofs.CountLaws.{how_many-more, how_many-next}
 use Rattle.image.specs.Words.{byte_at}
-use Rattle.image.specs.Bits.{bit_of, is_set}
+use Rattle.image.specs.Bits.{bit_of, bit_at, is_set}
 use Rattle.image.proofs.BitLaws.{bit_in, set-one}
 
 -- The set bits among the first i of a byte; all eight are its ones, which is computed for every byte.
@@ -40,3 +40,11 @@ pub how_many-byte : (map : List ℕ) (k : ℕ) → byte_at map k < 256 → how_m
 how_many-byte map k h =
     let e : 8 * (k + 1) ≡ 8 * k + 8 = omega arith in
     ap (how_many (is_set map) 0) e ∙ within map k 8 (omega arith) ∙ ap (λ (x : ℕ). how_many (is_set map) 0 (8 * k) + x) (sym (ones_low (byte_at map k) h))
+
+-- One bit more adds itself, 0 or 1.
+pub how_many-bit : (map : List ℕ) (from j : ℕ) → from ≤ j → how_many (is_set map) from (j + 1 - from) ≡ how_many (is_set map) from (j - from) + bit_at map j
+how_many-bit map from j h =
+    let d = j - from in
+    let e : j + 1 - from ≡ d + 1 = omega arith in
+    let at : from + d ≡ j = omega arith in
+    rw e (omega (arith, rw at at (how_many-more (is_set map) from d), set-one map j))

@@ -3,18 +3,10 @@
 #![tactic(auto)]
 
 ghost use Rattle.std.specs.Prelude.{◌≡◌, ◌*◌, ◌-◌, ◌^◌, ◌≤◌, ◌<◌, length};
-ghost use Rattle.std.specs.Int.Count.{ones};
 ghost use Rattle.lists.specs.Counts.{how_many};
 ghost use Rattle.image.specs.Bits.{is_set};
 
 use image::bits::bit_at;
-
-// How many bits of a byte are set.
-fn ones_of(b: u8) -> u32
-    ensures { result ≡ ones b }
-{
-    u8::count_ones(b)
-}
 
 // How many bits of the first q bytes are set.
 fn count_bytes(map: &[u8], q: usize) -> u32
@@ -22,10 +14,8 @@ fn count_bytes(map: &[u8], q: usize) -> u32
     ensures { (result ≡ how_many (is_set map.now) 0 (8 * q)) × (result ≤ 8 * q) }
 {
     let mut total: u32 = 0;
-    let mut i: usize = 0;
-    while i < q {
-        total += ones_of(map[i]);
-        i += 1;
+    for i in 0..q {
+        total += map[i].count_ones();
     }
     total
 }
@@ -36,10 +26,8 @@ fn count_bits(map: &[u8], from: usize, to: usize) -> u32
     ensures { (result ≡ how_many (is_set map.now) from (to - from)) × (result ≤ to - from) }
 {
     let mut total: u32 = 0;
-    let mut j = from;
-    while j < to {
-        total += bit_at(map, j) as u32;
-        j += 1;
+    for j in from..to {
+        total += u32::from(bit_at(map, j));
     }
     total
 }

@@ -1,11 +1,11 @@
 -- Laws of the bits of a map: how many are set, and how they fit the marks.
 use mathlib.Core.Path.{◌≡◌, refl, sym, ap, ap₂, ◌∙◌}
-use mathlib.Core.Bool.{false, not}
+use mathlib.Core.Bool.{true, false, not}
 use mathlib.Core.List.{List}
 use Prim.Native.Nat.{ℕ, zero, suc, ◌+◌, ◌*◌, ◌-◌, ◌/◌, ◌≤◌, ◌<◌}
 use native.Mathlib.Nat.{one-mul, add-zero}
 use native.Mathlib.Omega.{arith}
-use borrow.Author.Tests.{lt-ltb, le-ltb, eq-eqb}
+use borrow.Author.Tests.{lt-ltb, le-ltb, eq-eqb, ne_eqb}
 use lib.Dec.{eqb}
 use Rattle.lists.specs.First.{first}
 use Rattle.lists.proofs.FirstLaws.{first-start, first-has, first-same, first_found, first_past, first-behind}
@@ -30,10 +30,17 @@ unlike-from map area n j h = rw (le-ltb j n h) (go (bit_at map j) (bit_below map
     go (suc zero) h = refl
     go (suc (suc b)) h = absurd (omega arith)
 
--- The bit that is read and the bit that its mark wants, with the weight 1.
-pub unlike-is : (map area : List ℕ) (n j b w : ℕ) → j < n → b ≡ bit_at map j → w ≡ 1 * one_if (eqb (byte_at area j) 0) → unlike_marks map area n j ≡ not (eqb b w)
-unfolding wanted_bit
-unlike-is map area n j b w h eb ew = unlike-below map area n j h ∙ ap₂ (λ (x y : ℕ). not (eqb x y)) (sym eb) (sym (ew ∙ one-mul (one_if (eqb (byte_at area j) 0))))
+-- The bit that is read and the bit that its mark wants, with the weight 1: they differ, or they are the same.
+module _ (map area : List ℕ) (n j b w : ℕ) (inside : j < n) (read : b ≡ bit_at map j) (wants : w ≡ 1 * one_if (eqb (byte_at area j) 0)) where
+  unlike-is : unlike_marks map area n j ≡ not (eqb b w)
+  unfolding wanted_bit
+  unlike-is = unlike-below map area n j inside ∙ ap₂ (λ (x y : ℕ). not (eqb x y)) (sym read) (sym (wants ∙ one-mul (one_if (eqb (byte_at area j) 0))))
+
+  pub unlike-true : (b ≡ w → ⊥) → unlike_marks map area n j ≡ true
+  unlike-true differ = unlike-is ∙ ap not (ne_eqb b w differ)
+
+  pub unlike-false : b ≡ w → unlike_marks map area n j ≡ false
+  unlike-false same = unlike-is ∙ ap not (eq-eqb b w same)
 
 -- The search in two parts: below n, and from n on, where only set bits offend.
 module _ (map area : List ℕ) (n end : ℕ) (inside : n ≤ end) where

@@ -2,7 +2,7 @@
 
 #![tactic(auto)]
 
-ghost use Rattle.std.specs.Prelude.{◌≡◌, ◌+◌, ◌*◌, ◌-◌, ◌^◌, ◌≤◌, ◌<◌, eqb, length};
+ghost use Rattle.std.specs.Prelude.{◌≡◌, ◌+◌, ◌*◌, ◌-◌, ◌^◌, ◌≤◌, ◌<◌, eqb, length, MatchOption};
 ghost use Rattle.lists.specs.First.{first};
 ghost use Rattle.lists.specs.Counts.{one_if};
 ghost use Rattle.image.specs.Bits.{is_set};
@@ -17,24 +17,24 @@ fn weighed(m: u8, w: u8) -> u8
     if m == 0 { w } else { 0 }
 }
 
-// The first bit from one place to before n that is not as its mark wants it; n where there is none.
-fn first_unlike_bit(map: &[u8], area: &[u8], from: usize, n: usize) -> usize
+// The first bit from one place to before n that is not as its mark wants it.
+fn first_unlike_bit(map: &[u8], area: &[u8], from: usize, n: usize) -> Option<usize>
     requires { (n ≤ length area.now) × (n ≤ 8 * length map.now) × (from ≤ n) }
-    ensures { result ≡ first (unlike_marks map.now area.now n) from (n - from) }
+    ensures { MatchOption result
+        (first (unlike_marks map.now area.now n) from (n - from) ≡ n)
+        (λ j. (first (unlike_marks map.now area.now n) from (n - from) ≡ j) × (j < n)) }
 {
-    let mut j = from;
-    while j < n {
+    for j in from..n {
         let wanted = weighed(area[j], 1);
-        let unlike = bit_at(map, j) != wanted;
-        if unlike {
-            return j;
+        if bit_at(map, j) != wanted {
+            return Some(j);
         }
-        j += 1;
     }
-    j
+    None
 }
 
 // The low four bits of the byte that the eight marks from mark j on want.
+#[tactic(auto, unfolding(crate::specs::Wanted::wanted_low, crate::specs::Wanted::wanted_bit))]
 fn wanted_low(area: &[u8], j: usize) -> u8
     requires { j + 8 ≤ length area.now }
     ensures { (result ≡ wanted_low area.now j) × (result < 16) }
@@ -46,6 +46,7 @@ fn wanted_low(area: &[u8], j: usize) -> u8
 }
 
 // The high four bits.
+#[tactic(auto, unfolding(crate::specs::Wanted::wanted_high, crate::specs::Wanted::wanted_bit))]
 fn wanted_high(area: &[u8], j: usize) -> u8
     requires { j + 8 ≤ length area.now }
     ensures { (result ≡ wanted_high area.now j) × (result ≤ 240) }
@@ -57,6 +58,7 @@ fn wanted_high(area: &[u8], j: usize) -> u8
 }
 
 // The byte that the eight marks from mark j on want.
+#[tactic(auto, unfolding(crate::specs::Wanted::wanted_byte))]
 fn wanted_byte(area: &[u8], j: usize) -> u8
     requires { j + 8 ≤ length area.now }
     ensures { result ≡ wanted_byte area.now j }
@@ -69,50 +71,49 @@ fn like_bytes(map: &[u8], area: &[u8], n: usize) -> usize
     requires { (n ≤ length area.now) × (n ≤ 8 * length map.now) }
     ensures { (8 * result ≤ n) × (first (unlike_marks map.now area.now n) 0 n ≡ first (unlike_marks map.now area.now n) (8 * result) (n - 8 * result)) }
 {
-    let mut i: usize = 0;
-    while i < n / 8 {
-        let wanted = wanted_byte(area, 8 * i);
-        if map[i] != wanted {
+    for i in 0..n / 8 {
+        if map[i] != wanted_byte(area, 8 * i) {
             return i;
         }
-        i += 1;
     }
-    i
+    n / 8
 }
 
-// The first bit before n that is not as its mark wants it; n where there is none.
-fn first_unlike_below(map: &[u8], area: &[u8], n: usize) -> usize
+// The first bit before n that is not as its mark wants it.
+fn first_unlike_below(map: &[u8], area: &[u8], n: usize) -> Option<usize>
     requires { (n ≤ length area.now) × (n ≤ 8 * length map.now) }
-    ensures { result ≡ first (unlike_marks map.now area.now n) 0 n }
+    ensures { MatchOption result
+        (first (unlike_marks map.now area.now n) 0 n ≡ n)
+        (λ j. (first (unlike_marks map.now area.now n) 0 n ≡ j) × (j < n)) }
 {
     let q = like_bytes(map, area, n);
     first_unlike_bit(map, area, 8 * q, n)
 }
 
-// The first bit from one place to before another that is set; the second place where none is.
-fn first_set(map: &[u8], from: usize, end: usize) -> usize
+// The first bit from one place to before another that is set.
+fn first_set(map: &[u8], from: usize, end: usize) -> Option<usize>
     requires { (end ≤ 8 * length map.now) × (from ≤ end) }
-    ensures { result ≡ first (is_set map.now) from (end - from) }
+    ensures { MatchOption result
+        (first (is_set map.now) from (end - from) ≡ end)
+        (λ j. (first (is_set map.now) from (end - from) ≡ j) × (j < end)) }
 {
-    let mut j = from;
-    while j < end {
-        let set = bit_at(map, j) == 1;
-        if set {
-            return j;
+    for j in from..end {
+        if bit_at(map, j) == 1 {
+            return Some(j);
         }
-        j += 1;
     }
-    j
+    None
 }
 
-// The first bit before the end that is not as the marks of n blocks want it; the end where there is none.
-pub fn first_unlike(map: &[u8], area: &[u8], n: usize, end: usize) -> usize
+// The first bit before the end that is not as the marks of n blocks want it.
+pub fn first_unlike(map: &[u8], area: &[u8], n: usize, end: usize) -> Option<usize>
     requires { (n ≤ length area.now) × (n ≤ end) × (end ≤ 8 * length map.now) × (end < 2 ^ 63) }
-    ensures { result ≡ first (unlike_marks map.now area.now n) 0 end }
+    ensures { MatchOption result
+        (first (unlike_marks map.now area.now n) 0 end ≡ end)
+        (λ j. (first (unlike_marks map.now area.now n) 0 end ≡ j) × (j < end)) }
 {
-    let found = first_unlike_below(map, area, n);
-    if found < n {
-        return found;
+    if let Some(j) = first_unlike_below(map, area, n) {
+        return Some(j);
     }
     first_set(map, n, end)
 }

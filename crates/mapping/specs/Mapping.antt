@@ -1,12 +1,10 @@
 -- A file's VBNs: the LBN of one, and its block.
-use Rattle.std.specs.Prelude.{Bool, ◌&&◌, List, [], ℕ, ◌-◌, leb, length, get_or}
+use Rattle.answer.specs.declared.types.Lbn.{Lbn}
+use Rattle.std.specs.Prelude.{Bool, ◌&&◌, List, [], ℕ, ◌-◌, leb, length, get_or, Ok, Err}
 use Rattle.image.specs.Blocks.{block}
 use Rattle.answer.specs.declared.types.FileId.{FileId}
 use Rattle.answer.specs.declared.refusal.Refusal.TheVariants as refusal
-use Rattle.answer.specs.declared.outcome.Outcome.{Outcome}
-use Rattle.answer.specs.declared.answers.LbnAnswer.{LbnAnswer}
-use Rattle.answer.specs.declared.answers.LbnAnswer.TheVariants.{Done, Refused}
-use Rattle.answer.specs.Outcome.{unless, ◌then◌}
+use Rattle.answer.specs.Outcome.{unless, ◌then◌, Outcome, Answer}
 use Rattle.answer.specs.Answers.{lbn_answer}
 use Rattle.chains.specs.Chains.{file_blocks}
 use Rattle.open_file.specs.Opening.{open_file}
@@ -24,10 +22,10 @@ unfoldable pub find_vbn : List ℕ → FileId → ℕ → Outcome
 find_vbn image id vbn = open_file image id then unless (has_vbn image id.number vbn) refusal.Vbn
 
 -- The answer of mapping a VBN. 01, Answer numbers: DONE has as value the "LBN (map)".
-unfoldable pub map_answer : List ℕ → FileId → ℕ → LbnAnswer
+unfoldable pub map_answer : List ℕ → FileId → ℕ → Answer Lbn
 map_answer image id vbn = lbn_answer (find_vbn image id vbn) (lbn_of image id.number vbn)
 
 -- 01, Names and directories: "A block is answered as the image's own 512 bytes, not a copy." 01, Answer numbers: a refusal has "an empty part".
-unfoldable pub block_of : List ℕ → LbnAnswer → List ℕ
-block_of image (Done lbn) = block image lbn.0
-block_of image (Refused r) = []
+unfoldable pub block_of : List ℕ → Answer Lbn → List ℕ
+block_of image (Ok lbn) = block image lbn.0
+block_of image (Err r) = []

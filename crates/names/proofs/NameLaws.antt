@@ -7,10 +7,17 @@ use native.Mathlib.Numerals.{add-one}
 use native.Mathlib.Omega.{arith}
 use borrow.Author.Tests.{eq-eqb, ne_eqb}
 use lib.Dec.{eqb}
+use Rattle.std.specs.Prelude.{◌==◌}
+use Rattle.std.specs.List.{list_all}
 use lib.ListN.{length, get_or, drop, drop_of_length-le}
 use lib.Seq.{drop-cons}
 use Rattle.radix50.specs.Table.{char_of, is_name_char}
 use Rattle.names.specs.Names.{blank, filled, kept}
+
+pub list_all-blank : (cs : List ℕ) → list_all (λ c. c == 0) cs ≡ blank cs
+unfolding blank
+list_all-blank [] = refl
+list_all-blank (c ∷ cs) = rw (list_all-blank cs)
 
 pub blank-kept : (cs : List ℕ) → blank cs ≡ true → kept cs ≡ []
 unfolding blank kept
@@ -37,18 +44,6 @@ filled-some (c ∷ cs) t f = go (eqb c 0) t f
     go false t f = omega arith
 
 module _ (cs : List ℕ) (i : ℕ) where
-  pub blank-on : i < length cs → get_or cs i 0 ≡ 0 → blank (drop i cs) ≡ blank (drop (i + 1) cs)
-  unfolding blank
-  blank-on h z = rw (add-one i, drop-cons cs i 0, eq-eqb (get_or cs i 0) 0 z)
-
-  pub blank-off : i < length cs → (get_or cs i 0 ≡ 0 → ⊥) → blank (drop i cs) ≡ false
-  unfolding blank
-  blank-off h z = rw (drop-cons cs i 0, ne_eqb (get_or cs i 0) 0 z)
-
-  pub blank-end : length cs ≤ i → blank (drop i cs) ≡ true
-  unfolding blank
-  blank-end h = rw (drop_of_length-le cs h)
-
   pub filled-blank : i < length cs → get_or cs i 0 ≡ 0 → filled (drop i cs) ≡ blank (drop i cs)
   unfolding filled blank
   filled-blank h z = rw (drop-cons cs i 0, eq-eqb (get_or cs i 0) 0 z)
@@ -72,3 +67,6 @@ module _ (cs : List ℕ) (i : ℕ) where
   pub kept-end : length cs ≤ i → length (kept (drop i cs)) ≡ 0
   unfolding kept
   kept-end h = rw (drop_of_length-le cs h)
+
+-- A walk through codes, up to the first that is no capital and no digit.
+pub ruleset filled_walk = (blank-kept, filled-blank, filled_on, filled_off, filled-end, kept_on, kept-end)

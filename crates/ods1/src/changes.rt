@@ -8,7 +8,7 @@ ghost use Rattle.answer_words.specs.Words.{lbn_words, id_words, bare_words};
 ghost use Rattle.ods1.specs.Arguments.{id_of, of_words};
 
 use answer::types::{FileId, Name};
-use answer_words::{put_bare, put_id, put_lbn};
+use answer::words::put;
 use create::create;
 use delete::delete;
 use extend::extend;
@@ -40,7 +40,7 @@ pub fn ods1_create(
         version,
     };
     let result = create(image, name, owner, protection, blocks, headers);
-    put_id(answer, result);
+    put(answer, result);
 }
 
 // A file with so many blocks more, in a row: the first of them.
@@ -64,8 +64,7 @@ pub fn ods1_extend(
         sequence,
         volume,
     };
-    let result = extend(image, id, count, blocks, headers);
-    put_lbn(answer, result);
+    put(answer, extend(image, id, count, blocks, headers));
 }
 
 // A file given up: its numbers, its slots and its blocks.
@@ -88,6 +87,5 @@ pub fn ods1_delete(
         sequence,
         volume,
     };
-    let result = delete(image, id, blocks, headers);
-    put_bare(answer, result);
+    put(answer, delete(image, id, blocks, headers));
 }

@@ -6,8 +6,7 @@ ghost use Rattle.directory_words.specs.Words.{next_record_words};
 ghost use Rattle.ods1.specs.Arguments.{id_of, of_words};
 
 use answer::types::{FileId, Name};
-use answer_words::put_id;
-use directory_words::put_next_record;
+use answer::words::put;
 use look_up::{look_up, next_record};
 
 // The ID that a directory has under a name, as it is stored.
@@ -40,7 +39,7 @@ pub fn ods1_look_up(
             version,
         },
     );
-    put_id(answer, result);
+    put(answer, result);
 }
 
 // The next record of a directory that is not empty, from a place on, and the place to go on from.
@@ -63,5 +62,5 @@ pub fn ods1_next_record(
         },
         place,
     );
-    put_next_record(answer, result);
+    put(answer, result);
 }

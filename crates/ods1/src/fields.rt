@@ -10,44 +10,37 @@ ghost use Rattle.file_words.specs.Words.{attributes_words};
 ghost use Rattle.ods1.specs.Arguments.{id_of};
 
 use answer::types::{FileId, FileNumber};
-use answer_words::put_run;
+use answer::words::put;
 use file_facts::attributes;
-use file_words::put_attributes;
 use header_facts::{header, pointer};
-use header_words::put_header;
 use volume_facts::{geometry, label};
-use volume_words::{put_geometry, put_label};
 
 // Where the parts of a volume lie.
 pub fn ods1_geometry(image: &[u8], answer: &mut [u64; 12])
     ensures { answer.new ≡ geometry_words (geometry_answer image.now) }
 {
-    let result = geometry(image);
-    put_geometry(answer, result);
+    put(answer, geometry(image));
 }
 
 // The label of a volume: six words of its name, owner, protection, characteristics, default file protection.
 pub fn ods1_label(image: &[u8], answer: &mut [u64; 12])
     ensures { answer.new ≡ label_words (label_answer image.now) }
 {
-    let result = label(image);
-    put_label(answer, result);
+    put(answer, label(image));
 }
 
 // What the header of a file number in use says.
 pub fn ods1_header(image: &[u8], number: u16, answer: &mut [u64; 12])
     ensures { answer.new ≡ header_words (header_answer image.now number) }
 {
-    let result = header(image, FileNumber(number as u32));
-    put_header(answer, result);
+    put(answer, header(image, FileNumber(u32::from(number))));
 }
 
 // A retrieval pointer of the header of a file number in use: its first LBN, and how many blocks it covers.
 pub fn ods1_pointer(image: &[u8], number: u16, place: u32, answer: &mut [u64; 12])
     ensures { answer.new ≡ run_words (pointer_answer image.now number place) }
 {
-    let result = pointer(image, FileNumber(number as u32), place);
-    put_run(answer, result);
+    put(answer, pointer(image, FileNumber(u32::from(number)), place));
 }
 
 // What an opened file says of itself: blocks, end of file, owner, protection, flags, attributes.
@@ -68,5 +61,5 @@ pub fn ods1_attributes(
             volume,
         },
     );
-    put_attributes(answer, result);
+    put(answer, result);
 }

@@ -7,8 +7,8 @@ ghost use Rattle.file_words.specs.Words.{block_words};
 ghost use Rattle.ods1.specs.Arguments.{id_of};
 
 use answer::types::{FileId, Vbn};
-use answer_words::{put_count, put_lbn};
-use file_words::put_block;
+use answer::words::put;
+use file_words::Block;
 use mapping::map;
 use open_file::open_file;
 
@@ -24,7 +24,7 @@ pub fn ods1_open_file(image: &[u8], number: u16, sequence: u16, volume: u16, ans
             volume,
         },
     );
-    put_count(answer, result);
+    put(answer, result);
 }
 
 // The LBN of a file's VBN.
@@ -47,7 +47,7 @@ pub fn ods1_map(
         },
         Vbn(vbn),
     );
-    put_lbn(answer, result);
+    put(answer, result);
 }
 
 // Where the block of a file's VBN begins in the image, and how many bytes it has.
@@ -70,5 +70,5 @@ pub fn ods1_block(
         },
         Vbn(vbn),
     );
-    put_block(answer, result);
+    put(answer, result.map(Block));
 }

@@ -7,17 +7,15 @@ ghost use Rattle.text_words.specs.Words.{text_to_name_words};
 ghost use Rattle.ods1.specs.Arguments.{of_words};
 
 use answer::types::Name;
-use answer_words::put_count;
+use answer::words::put;
 use parse::text_to_name;
 use text::name_to_text;
-use text_words::put_text_to_name;
 
 // The five words of a text `NAME.TYP;V`.
 pub fn ods1_text_to_name(text: &[u8], answer: &mut [u64; 12])
     ensures { answer.new ≡ text_to_name_words (text_to_name_answer text.now) }
 {
-    let result = text_to_name(text);
-    put_text_to_name(answer, result);
+    put(answer, text_to_name(text));
 }
 
 // The text of five words, into a buffer of at least 19 bytes, and its length.
@@ -43,5 +41,5 @@ pub fn ods1_name_to_text(
         },
         text,
     );
-    put_count(answer, result);
+    put(answer, result);
 }

@@ -6,7 +6,7 @@ ghost use Rattle.answer_words.specs.Words.{run_words};
 ghost use Rattle.ods1.specs.Arguments.{id_of};
 
 use answer::types::{FileId, Lbn, Vbn};
-use answer_words::put_run;
+use answer::words::put;
 use extents::extent;
 use free_run::free_run;
 
@@ -30,13 +30,12 @@ pub fn ods1_extent(
         },
         Vbn(vbn),
     );
-    put_run(answer, result);
+    put(answer, result);
 }
 
 // The first run of free blocks from an LBN on: its first LBN, and how many blocks it has.
 pub fn ods1_free_run(image: &[u8], from: u32, answer: &mut [u64; 12])
     ensures { answer.new ≡ run_words (free_run_answer image.now from) }
 {
-    let result = free_run(image, Lbn(from));
-    put_run(answer, result);
+    put(answer, free_run(image, Lbn(from)));
 }

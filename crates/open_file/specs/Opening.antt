@@ -1,12 +1,9 @@
 -- Opening a file by its ID: RELVOL, NUMBER, HEADER, SEQUENCE, SEGMENT; LOCKED; CHAIN, in this order.
-use Rattle.std.specs.Prelude.{◌≡◌, not, List, ℕ, ◌≤◌, eqb, length}
+use Rattle.std.specs.Prelude.{◌≡◌, not, List, ℕ, ◌≤◌, eqb, length, Ok, Err, MatchResult}
 use Rattle.answer.specs.declared.types.FileId.{FileId}
 use Rattle.answer.specs.declared.refusal.Refusal.TheVariants as refusal
-use Rattle.answer.specs.declared.outcome.Outcome.{Outcome}
-use Rattle.answer.specs.declared.outcome.Outcome.TheVariants as outcome
-use Rattle.answer.specs.declared.answers.CountAnswer.{CountAnswer}
-use Rattle.answer.specs.Outcome.{unless, ◌then◌}
-use Rattle.answer.specs.Answers.{count_answer}
+use Rattle.answer.specs.Outcome.{unless, ◌then◌, Outcome, Answer}
+use Rattle.answer.specs.Answers.{answer_of}
 use Rattle.header.specs.Fields.{h_fseq, segment}
 use Rattle.header.specs.Flags.{locked}
 use Rattle.volume.specs.Volume.{slot, header, volume_of, places_of}
@@ -39,7 +36,7 @@ Gate = List ℕ → Outcome
 
 -- 02, 14/14: "The calls without a user code stay": nothing is asked there.
 unfoldable pub anyone : Gate
-anyone h = outcome.Passed
+anyone h = (Ok tt)
 
 -- Opening a file on an opened volume. 01, Answer numbers: "Order: .. 6 to 12".
 unfoldable pub open_on : Gate → List ℕ → FileId → Outcome
@@ -52,23 +49,31 @@ open_by gate image id = open_volume image then open_on gate image id
 abbrev pub open_file : List ℕ → FileId → Outcome
 open_file image id = open_by anyone image id
 
--- What the calls that go on from an opened file are told: the outcome, and where that is passed how many blocks the file has and the LBN of its first
--- header. There are never more blocks than 256 headers with 127 pointers of 256 blocks can cover: 8,323,072.
-abbrev pub Tells : List ℕ → FileId → Outcome → OpenedOn → Type 0
+-- What the calls that go on from an opened file are told: the refusal or, where each test is passed, how many blocks the file has and the LBN of its
+-- first header. There are never more blocks than 256 headers with 127 pointers of 256 blocks can cover: 8,323,072.
+abbrev pub Tells : List ℕ → FileId → Outcome → Answer OpenedOn → Type 0
 Tells image id result file =
-    (file.outcome ≡ result)
-    × (result ≡ outcome.Passed → (file.blocks ≡ length (file_blocks image id.number)) × (file.header.0 ≡ slot image id.number))
-    × (file.blocks ≤ 8323072)
+    MatchResult file
+    (λ f.
+    (result ≡ Ok tt)
+    × (f.blocks ≡ length (file_blocks image id.number))
+    × (f.header.0 ≡ slot image id.number)
+    × (f.blocks ≤ 8323072))
+    (λ r. result ≡ Err r)
 
 -- The same, with the volume record.
-abbrev pub TellsPlaces : List ℕ → FileId → Outcome → OpenFile → List ℕ → Type 0
+abbrev pub TellsPlaces : List ℕ → FileId → Outcome → Answer OpenFile → List ℕ → Type 0
 TellsPlaces image id result file at =
-    (file.outcome ≡ result)
-    × (result ≡ outcome.Passed
-    → (file.volume ≡ volume_of image) × (file.blocks ≡ length (file_blocks image id.number)) × (file.header.0 ≡ slot image id.number))
-    × (file.blocks ≤ 8323072)
-    × (result ≡ outcome.Passed → at ≡ places_of image)
+    MatchResult file
+    (λ f.
+    (result ≡ Ok tt)
+    × (f.volume ≡ volume_of image)
+    × (f.blocks ≡ length (file_blocks image id.number))
+    × (f.header.0 ≡ slot image id.number)
+    × (f.blocks ≤ 8323072)
+    × (at ≡ places_of image))
+    (λ r. result ≡ Err r)
 
 -- The answer of opening a file. 01, Answer numbers: DONE has as value the "block count (open file)".
-unfoldable pub open_file_answer : List ℕ → FileId → CountAnswer
-open_file_answer image id = count_answer (open_file image id) (length (file_blocks image id.number))
+unfoldable pub open_file_answer : List ℕ → FileId → Answer ℕ
+open_file_answer image id = answer_of (open_file image id) (length (file_blocks image id.number))

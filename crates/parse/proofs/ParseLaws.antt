@@ -1,35 +1,46 @@
 -- Laws of the parts of a text: runs of capitals and digits, their codes, and the digits of a version. Assumes nothing.
 use mathlib.Core.Path.{◌≡◌, refl, sym, ap, ◌∙◌}
-use mathlib.Core.Bool.{Bool, true, false, cond, not, ◌&&◌, true≢false, and-true, and-false}
+use mathlib.Core.Bool.{true, false, not, ◌&&◌, and-false}
 use mathlib.Core.List.{List, [], ◌∷◌, ◌++◌}
-use Prim.Native.Nat.{ℕ, zero, suc, ◌+◌, ◌*◌, ◌-◌, ◌^◌, ◌≤◌, ◌<◌}
-use native.Mathlib.Nat.{pow-le-pow_right}
+use Prim.Native.Nat.{ℕ, zero, suc, ◌+◌, ◌*◌, ◌-◌, ◌≤◌, ◌<◌}
 use native.Mathlib.Decide.{ℕ_discrete, dec_lt}
 use native.Mathlib.Numerals.{add-one}
 use native.Mathlib.Omega.{arith}
-use borrow.Author.Tests.{le-leb, lt-leb, not-false}
-use lib.Dec.{eqb, leb}
+use borrow.Author.Tests.{le-leb, not-false}
 use lib.ListN.{length, get_or, take, length-append, get_or-append, get_or-eq_default}
 use lib.Seq.{length-take-le, get_or-take, get_or-append_seam}
 use Rattle.image.specs.Words.{byte_at}
+use Rattle.std.specs.List.{prefix_len}
+use Rattle.std.proofs.lemmas.List.Sums.{prefix_len-le-length, prefix_len_passes, prefix_len_stops}
 use Rattle.lists.proofs.FirstLaws.{first-has, first-is}
 use Rattle.radix50.specs.Table.{code_of, is_digit, is_name_char}
 use Rattle.radix50.proofs.TableLaws.{coded, blank-code}
-use Rattle.parse.specs.Parse.{ends_at, span, Part, code_at, value_to, digits_to, is_version}
+use Rattle.parse.specs.Parse.{ends_at, span, Part, code_at, value_to, digits_to}
 
 -- ---- the run at the start
 
-pub span-most : (t : List ℕ) → span t ≤ length t
+pub span_most : (t : List ℕ) → span t ≤ length t
 unfolding span
-span-most t = omega (arith, (first-has (ends_at t) 0 (length t)).high)
+span_most t = omega (arith, (first-has (ends_at t) 0 (length t)).high)
 
-pub span-part : (t : List ℕ) → Part (take (span t) t)
+pub span_part : (t : List ℕ) → Part (take (span t) t)
 unfolding span ends_at
-span-part t = record {
+span_part t = record {
   each = λ j h.
-      let l : j < span t = omega (arith, length-take-le (span t) t (span-most t)) in
+      let l : j < span t = omega (arith, length-take-le (span t) t (span_most t)) in
       rw (get_or-take (span t) t j 0 l) (not-false (is_name_char (byte_at t j)) ((first-has (ends_at t) 0 (length t)).before j (omega arith) l));
 }
+
+-- The run as std has it.
+pub prefix_len_span : (t : List ℕ) → prefix_len is_name_char t ≡ span t
+unfolding span ends_at
+prefix_len_span t =
+    sym (first-is (ends_at t) 0 (length t) (prefix_len is_name_char t) (record {
+      low = omega arith;
+      high = omega (arith, prefix_len-le-length is_name_char t);
+      before = λ i a h. ap not (prefix_len_passes is_name_char t i 0 h);
+      here = λ h. ap not (prefix_len_stops is_name_char t 0 (omega arith));
+    }))
 
 -- A run of capitals and digits that another character ends.
 pub span-is : (p : List ℕ) (x : ℕ) (s : List ℕ) → Part p → is_name_char x ≡ false → span (p ++ (x ∷ s)) ≡ length p
@@ -55,33 +66,22 @@ module _ (p : List ℕ) (j : ℕ) where
   unfolding code_at
   code_in h = ap code_of (get_d_any p j 32 0 h)
 
-  pub code-past : length p ≤ j → code_at p j ≡ 0
+  pub code_past : length p ≤ j → code_at p j ≡ 0
   unfolding code_at
-  code-past h = ap code_of (get_or-eq_default p 32 h) ∙ blank-code
+  code_past h = ap code_of (get_or-eq_default p 32 h) ∙ blank-code
 
-  pub code-small : Part p → code_at p j < 40
-  code-small part = go (dec_lt j (length p))
+  pub code_small : Part p → code_at p j < 40
+  code_small part = go (dec_lt j (length p))
     where
       go : Dec (j < length p) → code_at p j < 40
       go (yes h) = rw (code_in h) (coded (byte_at p j) (part.each j h)).small
-      go (no h) = rw (code-past (omega arith)) (omega arith)
+      go (no h) = rw (code_past (omega arith)) (omega arith)
 
 -- ---- the digits of a version
 
 pub digit-in : (x : ℕ) → 48 ≤ x → x ≤ 57 → is_digit x ≡ true
 unfolding is_digit
 digit-in x a b = rw (le-leb 48 x a, le-leb x 57 b)
-
-pub digit_low : (x : ℕ) → x < 48 → is_digit x ≡ false
-unfolding is_digit
-digit_low x h = rw (lt-leb 48 x h)
-
-pub digit-high : (x : ℕ) → 57 < x → is_digit x ≡ false
-unfolding is_digit
-digit-high x h = rw (lt-leb x 57 h, and-false)
-
-pub tens : (i : ℕ) → i ≤ 5 → 10 ^ i ≤ 100000
-tens i h = pow-le-pow_right (omega arith) h
 
 module _ (d : List ℕ) where
   pub value_none : value_to d 0 ≡ 0
@@ -108,22 +108,3 @@ module _ (d : List ℕ) where
       go : Dec (i ≡ n) → (i < n → digits_to d n ≡ false) → (digits_to d n && is_digit (byte_at d n)) ≡ false
       go (yes e) rest = rw (← e, f, and-false)
       go (no ne) rest = rw (rest (omega arith))
-
--- The tests of a version's text, where one number stands for the digits and what they write.
-pub version-test : (d : List ℕ) → length d ≤ 5
-    → is_version d ≡ (leb 1 (length d) && not (eqb (byte_at d 0) 48) && leb (cond (digits_to d (length d)) (value_to d (length d)) 100000) 32767)
-unfolding is_version
-version-test d h = rw (le-leb (length d) 5 h, and-true) (go (digits_to d (length d)))
-  where
-    go : (b : Bool)
-        → (leb 1 (length d) && b && not (eqb (byte_at d 0) 48) && leb (value_to d (length d)) 32767)
-        ≡ (leb 1 (length d) && not (eqb (byte_at d 0) 48) && leb (cond b (value_to d (length d)) 100000) 32767)
-    go true = rw and-true
-    go false = rw (and-false, and-false)
-
-pub version-value : (d : List ℕ) → leb (cond (digits_to d (length d)) (value_to d (length d)) 100000) 32767 ≡ true → cond (digits_to d (length d)) (value_to d (length d)) 100000 ≡ value_to d (length d)
-version-value d t = go (digits_to d (length d)) t
-  where
-    go : (b : Bool) → leb (cond b (value_to d (length d)) 100000) 32767 ≡ true → cond b (value_to d (length d)) 100000 ≡ value_to d (length d)
-    go true t = refl
-    go false t = absurd (true≢false (sym t))

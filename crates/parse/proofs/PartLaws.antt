@@ -17,7 +17,7 @@ use Rattle.names.specs.Names.{blank, filled, kept}
 use Rattle.radix50.proofs.TableLaws.{coded, name-code, blank-code}
 use Rattle.names.proofs.NameLaws.{blank-kept}
 use Rattle.parse.specs.Parse.{Part, code_at, part_word}
-use Rattle.parse.proofs.ParseLaws.{code_in, code-past, code-small}
+use Rattle.parse.proofs.ParseLaws.{code_in, code_past, code_small}
 
 -- ---- from codes to the part that they keep
 
@@ -97,7 +97,7 @@ module _ (p : List ℕ) where
   pub blank-from : (j n : ℕ) → length p ≤ j → blank (codes_from p j n) ≡ true
   unfolding codes_from blank
   blank-from j zero h = refl
-  blank-from j (suc n) h = rw (code-past p j h) (blank-from (j + 1) n (omega arith))
+  blank-from j (suc n) h = rw (code_past p j h) (blank-from (j + 1) n (omega arith))
 
   module _ (part : Part p) where
     pub filled-from : (j n : ℕ) → filled (codes_from p j n) ≡ true
@@ -110,7 +110,7 @@ module _ (p : List ℕ) where
         go (yes h) rest =
             let x = coded (byte_at p j) (part.each j h) in
             rw (code_in p j h, ne_eqb (code_of (byte_at p j)) 0 x.filled, x.back, part.each j h, rest)
-        go (no h) rest = rw (code-past p j (omega arith)) (blank-from (j + 1) n (omega arith))
+        go (no h) rest = rw (code_past p j (omega arith)) (blank-from (j + 1) n (omega arith))
 
     pub kept_from : (j n : ℕ) → length p ≤ j + n → kept (codes_from p j n) ≡ drop j p
     unfolding codes_from kept
@@ -123,13 +123,13 @@ module _ (p : List ℕ) where
             let x = coded (byte_at p j) (part.each j l) in
             rw (code_in p j l, ne_eqb (code_of (byte_at p j)) 0 x.filled, x.back, rest, add-one j) (sym (drop-cons p j 0 l))
         go (no l) rest =
-            rw (code-past p j (omega arith), rest) (drop_of_length-le p {i = j + 1} (omega arith) ∙ sym (drop_of_length-le p {i = j} (omega arith)))
+            rw (code_past p j (omega arith), rest) (drop_of_length-le p {i = j + 1} (omega arith) ∙ sym (drop_of_length-le p {i = j} (omega arith)))
 
     -- The three codes of word i.
     pub part-codes : (i : ℕ) → codes (part_word p i) ≡ code_at p (3 * i) ∷ code_at p (3 * i + 1) ∷ code_at p (3 * i + 2) ∷ []
     unfolding part_word
     part-codes i =
-        codes-word (code_at p (3 * i)) (code_at p (3 * i + 1)) (code_at p (3 * i + 2)) (code-small p (3 * i + 1) part) (code-small p (3 * i + 2) part)
+        codes-word (code_at p (3 * i)) (code_at p (3 * i + 1)) (code_at p (3 * i + 2)) (code_small p (3 * i + 1) part) (code_small p (3 * i + 2) part)
 
     pub some-from : (n : ℕ) → 1 ≤ length p → blank (codes_from p 0 (suc n)) ≡ false
     unfolding codes_from blank

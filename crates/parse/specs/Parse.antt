@@ -1,15 +1,14 @@
 -- The name of a text.
 -- 01, Names and directories: "Text: `NAME.TYP;V`, the dot always there, V decimal without leading zero, nothing after it; room for 19 bytes."
 -- Of the characters, 46 is the dot, 59 the semicolon, 48 the digit 0 and 32 the blank.
-use Rattle.std.specs.Prelude.{◌≡◌, Bool, true, cond, not, ◌&&◌, List, ℕ, zero, suc, ◌+◌, ◌*◌, ◌-◌, ◌<◌, eqb, leb, length, get_or, take, drop}
+use Rattle.answer.specs.Outcome.{Answer}
+use Rattle.std.specs.Prelude.{◌≡◌, Bool, true, cond, not, ◌&&◌, List, ℕ, zero, suc, ◌+◌, ◌*◌, ◌-◌, ◌<◌, eqb, leb, length, get_or, take, drop, Ok, Err}
 use Rattle.image.specs.Words.{byte_at}
 use Rattle.lists.specs.First.{first}
 use Rattle.answer.specs.declared.types.Name.{Name}
 use Rattle.answer.specs.declared.refusal.Refusal.TheVariants as refusal
 use Rattle.radix50.specs.Table.{code_of, is_digit, is_name_char}
 use Rattle.radix50.specs.Words.{word_of}
-use Rattle.parse.specs.declared.TextToNameAnswer.{TextToNameAnswer}
-use Rattle.parse.specs.declared.TextToNameAnswer.TheVariants.{Done, Refused}
 
 -- 01, Names and directories: "capitals or digits". Whether the character at a place is neither, and so ends NAME or TYP.
 unfoldable pub ends_at : List ℕ → ℕ → Bool
@@ -57,20 +56,20 @@ name_of p y d = record {
 }
 
 -- 01, Names and directories: "`NAME.TYP;V`". NAME and TYP, p and y, are read, and d is left: V.
-unfoldable pub with_version : List ℕ → List ℕ → List ℕ → TextToNameAnswer
-with_version p y d = cond (is_version d) (Done (name_of p y d)) (Refused refusal.Name)
+unfoldable pub with_version : List ℕ → List ℕ → List ℕ → Answer Name
+with_version p y d = cond (is_version d) (Ok (name_of p y d)) (Err refusal.Name)
 
 -- 01, Names and directories: "`NAME.TYP;V`", a type "with 0 to 3" characters. NAME, p, is read, and s is left: TYP, a semicolon, V.
-unfoldable pub with_type : List ℕ → List ℕ → TextToNameAnswer
+unfoldable pub with_type : List ℕ → List ℕ → Answer Name
 with_type p s =
     cond (leb (span s) 3 && eqb (byte_at s (span s)) 59)
     (with_version p (take (span s) s) (drop (span s + 1) s))
-    (Refused refusal.Name)
+    (Err refusal.Name)
 
 -- 01, Names and directories: "1 to 9 capitals or digits", "the dot always there". The answer of the call from text to words.
 -- 01, Answer numbers: NAME where "not proper, text or words".
-unfoldable pub text_to_name_answer : List ℕ → TextToNameAnswer
+unfoldable pub text_to_name_answer : List ℕ → Answer Name
 text_to_name_answer t =
     cond (leb 1 (span t) && leb (span t) 9 && eqb (byte_at t (span t)) 46)
     (with_type (take (span t) t) (drop (span t + 1) t))
-    (Refused refusal.Name)
+    (Err refusal.Name)

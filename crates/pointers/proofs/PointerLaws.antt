@@ -1,4 +1,6 @@
 -- Laws of the blocks that a header's pointers cover.
+use Rattle.std.specs.Prelude.{Ok, Err}
+use Rattle.std.specs.Result.{result_unwrap_or}
 use mathlib.Core.Path.{◌≡◌, refl, sym, ap, ◌∙◌}
 use mathlib.Core.List.{List, [], ◌++◌}
 use Prim.Native.Nat.{ℕ, zero, suc, ◌+◌, ◌*◌, ◌-◌, ◌≤◌, ◌<◌}
@@ -11,27 +13,21 @@ use lib.Seq.{get_or-append-add}
 use Rattle.lists.proofs.NumbersLaws.{numbers_from-length, numbers_from-at}
 use Rattle.pointers.specs.Pointers.{pointer_lbn, pointer_count, run, runs, pointers_at, pointers, blocks_of, InPointer, place_in}
 use Rattle.answer.specs.declared.types.Lbn.{Lbn}
-use Rattle.pointers.specs.declared.Place.{Place}
-use Rattle.pointers.specs.declared.Place.TheVariants.{At, Past}
 
 module _ (lbns : List ℕ) (i : ℕ) where
-  pub place_at : i < length lbns → place_in lbns i ≡ At (record { 0 = get_or lbns i 0 })
+  pub place_at : i < length lbns → place_in lbns i ≡ Ok (record { 0 = get_or lbns i 0 })
   unfolding place_in
   place_at h = rw (lt-ltb i (length lbns) h)
 
-  pub place-past : length lbns ≤ i → place_in lbns i ≡ Past (i - length lbns)
+  pub place-past : length lbns ≤ i → place_in lbns i ≡ Err (i - length lbns)
   unfolding place_in
   place-past h = rw (le-ltb i (length lbns) h)
 
 -- The LBN at a place; 0 past the last.
-abbrev pub place_lbn : Place → ℕ
-place_lbn (At l) = l.0
-place_lbn (Past i) = 0
-
-pub place-lbn : (lbns : List ℕ) (i : ℕ) → place_lbn (place_in lbns i) ≡ get_or lbns i 0
-place-lbn lbns i = go (dec_lt i (length lbns))
+pub place-or_zero : (lbns : List ℕ) (i : ℕ) → (result_unwrap_or (place_in lbns i) (record { 0 = 0 })).0 ≡ get_or lbns i 0
+place-or_zero lbns i = go (dec_lt i (length lbns))
   where
-    go : Dec (i < length lbns) → place_lbn (place_in lbns i) ≡ get_or lbns i 0
+    go : Dec (i < length lbns) → (result_unwrap_or (place_in lbns i) (record { 0 = 0 })).0 ≡ get_or lbns i 0
     go (yes l) = rw (place_at lbns i l)
     go (no l) = rw (place-past lbns i (omega arith)) (sym (get_or-eq_default lbns 0 {n = i} (omega arith)))
 
@@ -106,10 +102,10 @@ in-pointer h p o lbn left l m first e =
     }
 
 -- The place that a spot is.
-pub spot-at : (h : List ℕ) (i : ℕ) (lbn : Lbn) (left p : ℕ) → InPointer h i lbn.0 left p → At lbn ≡ place_in (blocks_of h) i
+pub spot-at : (h : List ℕ) (i : ℕ) (lbn : Lbn) (left p : ℕ) → InPointer h i lbn.0 left p → Ok lbn ≡ place_in (blocks_of h) i
 spot-at h i lbn left p s =
     let e : get_or (blocks_of h) i 0 ≡ lbn.0 = ap (λ (x : ℕ). get_or (blocks_of h) x 0) (omega arith) ∙ s.row 0 s.some ∙ omega arith in
     rw (place_at (blocks_of h) i (omega (arith, s.some, s.inside)), e)
 
-pub spot_past : (h : List ℕ) (i more : ℕ) → i ≡ length (blocks_of h) + more → Past more ≡ place_in (blocks_of h) i
-spot_past h i more e = rw (place-past (blocks_of h) i (omega arith)) (ap Past (omega arith))
+pub spot_past : (h : List ℕ) (i more : ℕ) → i ≡ length (blocks_of h) + more → Err more ≡ place_in (blocks_of h) i
+spot_past h i more e = rw (place-past (blocks_of h) i (omega arith)) (ap Err (omega arith))

@@ -1,12 +1,10 @@
 -- A header's retrieval pointers, and the blocks that they cover.
-use Rattle.std.specs.Prelude.{◌≡◌, cond, List, [], ◌++◌, ◌∷◌, ℕ, zero, suc, ◌+◌, ◌*◌, ◌-◌, ◌/◌, ◌≤◌, ◌<◌, ltb, length, get_or}
+use Rattle.answer.specs.declared.types.Lbn.{Lbn}
+use Rattle.std.specs.Prelude.{◌≡◌, cond, List, [], ◌++◌, ◌∷◌, ℕ, zero, suc, ◌+◌, ◌*◌, ◌-◌, ◌/◌, ◌≤◌, ◌<◌, ltb, length, get_or, Ok, Err, Result}
 use Rattle.lists.specs.Lists.{numbers_from}
 use Rattle.image.specs.Words.{byte_at, word_at}
 use Rattle.header.specs.Fields.{map_area, m_use}
 use Rattle.pointers.specs.declared.Spot.{Spot}
-use Rattle.pointers.specs.declared.Spot.TheVariants as spots
-use Rattle.pointers.specs.declared.Place.{Place}
-use Rattle.pointers.specs.declared.Place.TheVariants.{At, Past}
 
 -- 01, The header: "A pointer: high LBN byte, count byte, low LBN word". The first LBN of the pointer at a byte of the header.
 unfoldable pub pointer_lbn : List ℕ → ℕ → ℕ
@@ -50,13 +48,13 @@ pub record InPointer (h : List ℕ) (i lbn left pointer : ℕ) : Type 0 where
   pub row : (j : ℕ) → j < left → get_or (blocks_of h) (i + j) 0 ≡ lbn + j
 
 -- Where place i, from 0, lies among the pointers of a header.
-abbrev pub SpotOf : List ℕ → ℕ → Spot → Type 0
-SpotOf h i (spots.In lbn left pointer) = InPointer h i lbn.0 left pointer
-SpotOf h i (spots.Past more) = i ≡ length (blocks_of h) + more
+abbrev pub SpotOf : List ℕ → ℕ → Result Spot ℕ → Type 0
+SpotOf h i (Ok spot) = InPointer h i spot.lbn.0 spot.left spot.pointer
+SpotOf h i (Err more) = i ≡ length (blocks_of h) + more
 
 -- The block at a place, from 0, of a list of LBNs; or how far the place lies past them.
-unfoldable pub place_in : List ℕ → ℕ → Place
-place_in lbns i = cond (ltb i (length lbns)) (At (record { 0 = get_or lbns i 0 })) (Past (i - length lbns))
+unfoldable pub place_in : List ℕ → ℕ → Result Lbn ℕ
+place_in lbns i = cond (ltb i (length lbns)) (Ok (record { 0 = get_or lbns i 0 })) (Err (i - length lbns))
 
 -- The LBNs that headers cover, those of one header after those of the other. hdr gives a header: that of a file number, or the one at an LBN.
 unfoldable pub flat : (ℕ → List ℕ) → List ℕ → List ℕ

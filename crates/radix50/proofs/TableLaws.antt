@@ -18,9 +18,9 @@ characters =
     32 ∷ 65 ∷ 66 ∷ 67 ∷ 68 ∷ 69 ∷ 70 ∷ 71 ∷ 72 ∷ 73 ∷ 74 ∷ 75 ∷ 76 ∷ 77 ∷ 78 ∷ 79 ∷ 80 ∷ 81 ∷ 82 ∷ 83
     ∷ 84 ∷ 85 ∷ 86 ∷ 87 ∷ 88 ∷ 89 ∷ 90 ∷ 36 ∷ 46 ∷ 0 ∷ 48 ∷ 49 ∷ 50 ∷ 51 ∷ 52 ∷ 53 ∷ 54 ∷ 55 ∷ 56 ∷ 57 ∷ []
 
-pub characters-at : (c : ℕ) → c < 40 → get_or characters c 0 ≡ char_of c
+pub characters_at : (c : ℕ) → c < 40 → get_or characters c 0 ≡ char_of c
 unfolding below characters char_of
-characters-at c h =
+characters_at c h =
     eqb-true (get_or characters c 0) (char_of c) (below_at 40 (λ c. eqb (get_or characters c 0) (char_of c)) refl c h)
 
 pub char-past : (c : ℕ) → 40 ≤ c → char_of c ≡ 0
@@ -36,16 +36,16 @@ by_range x =
     (cond (eqb x 36) 27
     (cond (eqb x 46) 28 40))))
 
-pub code-by-range : (x : ℕ) → x < 256 → by_range x ≡ code_of x
+pub code_by_range : (x : ℕ) → x < 256 → code_of x ≡ by_range x
 unfolding below by_range code_of first has_char char_of
-code-by-range x h = eqb-true (by_range x) (code_of x) (below_at 256 (λ x. eqb (by_range x) (code_of x)) refl x h)
+code_by_range x h = eqb-true (code_of x) (by_range x) (below_at 256 (λ x. eqb (code_of x) (by_range x)) refl x h)
 
 -- The codes of capitals and digits by their ranges.
 unfoldable pub name_range : ℕ → Bool
 name_range c = (leb 1 c && leb c 26) || (leb 30 c && leb c 39)
 
 same_test : ℕ → Bool
-same_test c = beq (name_range c) (is_name_char (char_of c))
+same_test c = beq (is_name_char (char_of c)) (name_range c)
 
 beq-true : (a b : Bool) → beq a b ≡ true → a ≡ b
 beq-true true true t = refl
@@ -53,9 +53,9 @@ beq-true true false t = absurd (false≢true t)
 beq-true false true t = absurd (false≢true t)
 beq-true false false t = refl
 
-pub name-by-range : (c : ℕ) → c < 256 → name_range c ≡ is_name_char (char_of c)
+pub name_by_range : (c : ℕ) → c < 256 → is_name_char (char_of c) ≡ name_range c
 unfolding below name_range same_test char_of is_name_char is_digit
-name-by-range c h = beq-true (name_range c) (is_name_char (char_of c)) (below_at 256 same_test refl c h)
+name_by_range c h = beq-true (is_name_char (char_of c)) (name_range c) (below_at 256 same_test refl c h)
 
 -- The inverse, over the whole table: the code of a code's character is that code, and the code that is nothing has none.
 pub code-char : (c : ℕ) → c < 40 → code_of (char_of c) ≡ cond (eqb c nothing) 40 c

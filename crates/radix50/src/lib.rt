@@ -6,4 +6,4 @@ mod table;
 mod words;
 
 pub use table::{char_of, code_of, is_name_char, is_name_code};
-pub use words::{Characters, codes_of, word_to_characters};
+pub use words::{codes_of, word_to_characters};

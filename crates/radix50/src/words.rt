@@ -3,16 +3,10 @@ ghost use Rattle.std.specs.Prelude.{◌≡◌};
 ghost use Rattle.radix50.specs.Words.{codes, characters_of};
 
 use crate::table::char_of;
-use answer::refusal::Refusal;
-
-// The three characters of a word, or the refusal.
-#[derive(Clone, Copy)]
-pub enum Characters {
-    Done(u8, u8, u8),
-    Refused(Refusal),
-}
+use answer::refusal::{Answer, Refusal};
 
 // The three codes of a word.
+#[tactic(auto, unfolding(crate::specs::Words::codes))]
 pub fn codes_of(w: u16) -> [u8; 3]
     ensures { result ≡ codes w }
 {
@@ -20,14 +14,13 @@ pub fn codes_of(w: u16) -> [u8; 3]
 }
 
 // The three characters of a word below 64,000; a larger word is refused.
-pub fn word_to_characters(w: u16) -> Characters
+#[tactic(auto, unfolding(crate::specs::Words::codes, crate::specs::Words::characters_of))]
+pub fn word_to_characters(w: u16) -> Answer<[u8; 3]>
     ensures { result ≡ characters_of w }
 {
-    if w < 64000 {
-        let a = char_of((w / 1600) as u8);
-        let b = char_of((w / 40 % 40) as u8);
-        let c = char_of((w % 40) as u8);
-        return Characters::Done(a, b, c);
+    if 64000 <= w {
+        return Err(Refusal::Name);
     }
-    Characters::Refused(Refusal::Name)
+    let [a, b, c] = codes_of(w);
+    Ok([char_of(a), char_of(b), char_of(c)])
 }

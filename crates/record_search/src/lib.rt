@@ -12,6 +12,7 @@ use image::words::word_at;
 use records::Wanted;
 
 // Whether record i is not empty.
+#[tactic(auto, using(records::proofs::RecordLaws::filled_in))]
 fn is_filled(b: &[u8], i: u32) -> bool
     requires { 16 * i + 16 ≤ length b.now }
     ensures { result ≡ wanted_in b.now Any i }
@@ -20,21 +21,18 @@ fn is_filled(b: &[u8], i: u32) -> bool
 }
 
 // Whether record i is not empty and has this name. Most records differ in the version or in the first word of the name, so these are read first.
+#[tactic(auto, using(records::proofs::RecordLaws::named_in))]
 fn is_named(b: &[u8], i: usize, name: Name) -> bool
     requires { 16 * i + 16 ≤ length b.now }
     ensures { result ≡ wanted_in b.now (Named name) i }
 {
     let at = 16 * i;
-    if word_at(b, at + 14) != name.version {
-        return false;
-    }
-    if word_at(b, at + 6) != name.name1 {
-        return false;
-    }
-    (word_at(b, at) != 0)
-        & (word_at(b, at + 8) == name.name2)
-        & (word_at(b, at + 10) == name.name3)
-        & (word_at(b, at + 12) == name.typ)
+    word_at(b, at + 14) == name.version
+        && word_at(b, at + 6) == name.name1
+        && (word_at(b, at) != 0)
+            & (word_at(b, at + 8) == name.name2)
+            & (word_at(b, at + 10) == name.name3)
+            & (word_at(b, at + 12) == name.typ)
 }
 
 // Of the records from one place to before another, the first that is not empty; the second place where none is.
@@ -42,27 +40,24 @@ fn first_filled(b: &[u8], from: u32, to: u32) -> u32
     requires { (from ≤ to) × (16 * to ≤ length b.now) }
     ensures { result ≡ first (wanted_in b.now Any) from (to - from) }
 {
-    let mut i = from;
-    while i < to {
-        let filled = is_filled(b, i);
-        if filled {
+    for i in from..to {
+        if is_filled(b, i) {
             return i;
         }
-        i += 1;
     }
-    i
+    to
 }
 
-// The same, for a record that is not empty and has this name. The records left are counted down, which makes the shortest loop.
+// The same, for a record that is not empty and has this name.
 fn first_named(b: &[u8], from: u32, to: u32, name: Name) -> u32
     requires { (from ≤ to) × (16 * to ≤ length b.now) }
     ensures { result ≡ first (wanted_in b.now (Named name)) from (to - from) }
 {
     let end = to as usize;
     let mut left = end - (from as usize);
+    // A while loop: it counts down what is left, which makes the shortest loop.
     while 0 < left {
-        let named = is_named(b, end - left, name);
-        if named {
+        if is_named(b, end - left, name) {
             return (end - left) as u32;
         }
         left -= 1;

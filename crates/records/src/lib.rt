@@ -25,31 +25,24 @@ pub enum Wanted {
 }
 
 // The entry in record i.
+#[tactic(auto, using(crate::proofs::RecordLaws::entry_in))]
 pub fn entry_at(b: &[u8], i: u32) -> Entry
     requires { 16 * i + 16 ≤ length b.now }
     ensures { result ≡ entry_of (record_in b.now i) }
 {
     let at = 16 * (i as usize);
-    let number = word_at(b, at);
-    let sequence = word_at(b, at + 2);
-    let volume = word_at(b, at + 4);
-    let name1 = word_at(b, at + 6);
-    let name2 = word_at(b, at + 8);
-    let name3 = word_at(b, at + 10);
-    let typ = word_at(b, at + 12);
-    let version = word_at(b, at + 14);
     Entry {
         id: FileId {
-            number,
-            sequence,
-            volume,
+            number: word_at(b, at),
+            sequence: word_at(b, at + 2),
+            volume: word_at(b, at + 4),
         },
         name: Name {
-            name1,
-            name2,
-            name3,
-            typ,
-            version,
+            name1: word_at(b, at + 6),
+            name2: word_at(b, at + 8),
+            name3: word_at(b, at + 10),
+            typ: word_at(b, at + 12),
+            version: word_at(b, at + 14),
         },
     }
 }

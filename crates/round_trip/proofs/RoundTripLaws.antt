@@ -1,4 +1,6 @@
 -- The two text calls undo each other: a proper name's text is read back, and every accepted text is the text of its words.
+use Rattle.answer.specs.Outcome.{Answer}
+use Rattle.std.specs.Prelude.{Ok, Err}
 use mathlib.Core.Path.{◌≡◌, refl, sym, ap, ◌∙◌}
 use mathlib.Core.Bool.{Bool, true, false, cond, not, ◌&&◌, and-eq-true_iff}
 use mathlib.Core.List.{List, ◌∷◌, ◌++◌}
@@ -19,13 +21,11 @@ use Rattle.radix50.specs.Words.{codes}
 use Rattle.names.specs.Names.{blank, filled, kept, name_codes, proper}
 use Rattle.radix50.proofs.TableLaws.{code-char}
 use Rattle.names.proofs.NameLaws.{filled-some, kept-most}
-use Rattle.parse.specs.declared.TextToNameAnswer.{TextToNameAnswer}
-use Rattle.parse.specs.declared.TextToNameAnswer.TheVariants.{Done, Refused}
 use Rattle.text.specs.Text.{decimal, text_of, name_text}
 use Rattle.parse.specs.Parse.{span, Part, part_word, value_to, is_version, name_of, with_version, with_type, text_to_name_answer}
 use Rattle.round_trip.specs.RoundTrip.{AcceptedText, RoundTrip}
 use Rattle.text.proofs.TextLaws.{name-text-most}
-use Rattle.parse.proofs.ParseLaws.{span-most, span-part, span-is}
+use Rattle.parse.proofs.ParseLaws.{span_most, span_part, span-is}
 use Rattle.round_trip.proofs.DigitLaws.{Version, version-is, decimal-version, decimal-value}
 use Rattle.parse.proofs.PartLaws.{filled_keeps, codes-word, word-codes, part-codes, codes_from, filled-from, kept_from, some-from}
 
@@ -61,7 +61,7 @@ unfolding with_type
 type-step p y d part few =
     rw (mark y 59 d part no-semicolon, before y 59 d part no-semicolon, behind y 59 d part no-semicolon, span-is y 59 d part no-semicolon, le-leb (length y) 3 few)
 
-version-step : (p y d : List ℕ) → is_version d ≡ true → with_version p y d ≡ Done (name_of p y d)
+version-step : (p y d : List ℕ) → is_version d ≡ true → with_version p y d ≡ Ok (name_of p y d)
 unfolding with_version
 version-step p y d t = rw t
 
@@ -118,7 +118,7 @@ long-type : (w : ℕ) → length (kept (codes w)) ≤ 3
 unfolding codes
 long-type w = kept-most (codes w)
 
-back : (n : Name) → proper n ≡ true → text_to_name_answer (name_text n) ≡ Done n
+back : (n : Name) → proper n ≡ true → text_to_name_answer (name_text n) ≡ Ok n
 unfolding name_text text_of
 back n t =
     let r = proper-is n t in
@@ -128,15 +128,15 @@ back n t =
     name-step p (y ++ (59 ∷ d)) (filled_keeps (name_codes n) r.name).part (filled-some (name_codes n) r.name r.some) (long n)
     ∙ type-step p y d (filled_keeps (codes n.typ) r.typ).part (long-type n.typ)
     ∙ version-step p y d (decimal-version n.version r.least r.most)
-    ∙ ap Done (name_back n r)
+    ∙ ap Ok (name_back n r)
 
 -- ---- from an accepted text to its name and back
 
-record Chosen (b : Bool) (x : TextToNameAnswer) (n : Name) : Type 0 where
+record Chosen (b : Bool) (x : Answer Name) (n : Name) : Type 0 where
   test : b ≡ true
-  rest : x ≡ Done n
+  rest : x ≡ Ok n
 
-chosen : (b : Bool) (x : TextToNameAnswer) (r : Refusal) (n : Name) → cond b x (Refused r) ≡ Done n → Chosen b x n
+chosen : (b : Bool) (x : Answer Name) (r : Refusal) (n : Name) → cond b x (Err r) ≡ Ok n → Chosen b x n
 chosen true x r n e = record { test = refl; rest = e }
 chosen false x r n e = let z : ◌≡◌ {A = ℕ} 0 1 = cc in absurd (omega arith)
 
@@ -171,7 +171,7 @@ unfolding name_text text_of name_of
 accepted-text p y d part typ few small v =
     rw (name-codes p y d part, kept_from p part 0 9 few, type-codes y typ, kept_from y typ 0 3 small, v.same)
 
-forth : (t : List ℕ) (n : Name) → text_to_name_answer t ≡ Done n → AcceptedText t n
+forth : (t : List ℕ) (n : Name) → text_to_name_answer t ≡ Ok n → AcceptedText t n
 unfolding text_to_name_answer with_type with_version
 forth t n e =
     let s = drop (span t + 1) t in
@@ -182,7 +182,7 @@ forth t n e =
     let semicolon = eqb (byte_at s (span s)) 59 in
     let name = chosen (leb 1 (span t) && leb (span t) 9 && dot) (with_type p s) refusal.Name n e in
     let typ = chosen (leb (span s) 3 && semicolon) (with_version p y d) refusal.Name n name.rest in
-    let version = chosen (is_version d) (Done (name_of p y d)) refusal.Name n typ.rest in
+    let version = chosen (is_version d) (Ok (name_of p y d)) refusal.Name n typ.rest in
     let range = ((and-eq-true_iff (leb 1 (span t) && leb (span t) 9) dot).0 name.test).0 in
     let least = leb-true 1 (span t) ((and-eq-true_iff (leb 1 (span t)) (leb (span t) 9)).0 range).0 in
     let most = leb-true (span t) 9 ((and-eq-true_iff (leb 1 (span t)) (leb (span t) 9)).0 range).1 in
@@ -190,12 +190,12 @@ forth t n e =
     let at = eqb-true (byte_at t (span t)) 46 ((and-eq-true_iff (leb 1 (span t) && leb (span t) 9) dot).0 name.test).1 in
     let at' = eqb-true (byte_at s (span s)) 59 ((and-eq-true_iff (leb (span s) 3) semicolon).0 typ.test).1 in
     let is : name_of p y d ≡ n = cc in
-    let lp = length-take-le (span t) t (span-most t) in
-    let ly = length-take-le (span s) s (span-most s) in
+    let lp = length-take-le (span t) t (span_most t) in
+    let ly = length-take-le (span s) s (span_most s) in
     rw (← is) (record {
-      is-proper = accepted-proper p y d (span-part t) (span-part s) (omega arith) (version-is d version.test);
+      is-proper = accepted-proper p y d (span_part t) (span_part s) (omega arith) (version-is d version.test);
       is-text =
-          accepted-text p y d (span-part t) (span-part s) (omega arith) (omega arith) (version-is d version.test)
+          accepted-text p y d (span_part t) (span_part s) (omega arith) (omega arith) (version-is d version.test)
           ∙ ap (λ (r : List ℕ). p ++ (46 ∷ r)) (split s 59 at' (omega arith))
           ∙ split t 46 at (omega arith);
     })

@@ -1,10 +1,9 @@
 -- That the conversions undo each other: codes and characters, words and codes, names and texts.
-use Rattle.std.specs.Prelude.{◌≡◌, true, cond, List, [], ◌∷◌, ℕ, ◌/◌, ◌%◌, ◌≤◌, ◌<◌, eqb, length}
+use Rattle.std.specs.Prelude.{◌≡◌, true, cond, List, [], ◌∷◌, ℕ, ◌/◌, ◌%◌, ◌≤◌, ◌<◌, eqb, length, Ok}
 use Rattle.answer.specs.declared.types.Name.{Name}
 use Rattle.radix50.specs.Table.{char_of, nothing, code_of}
 use Rattle.radix50.specs.Words.{word_of, codes}
 use Rattle.names.specs.Names.{proper}
-use Rattle.parse.specs.declared.TextToNameAnswer.TheVariants.{Done}
 use Rattle.text.specs.Text.{name_text}
 use Rattle.parse.specs.Parse.{text_to_name_answer}
 
@@ -22,8 +21,8 @@ pub record RoundTrip : Type 0 where
   -- a word is that of its codes
   pub word_back : (w : ℕ) → word_of (w / 1600) (w / 40 % 40) (w % 40) ≡ w
   -- the text of a proper name converts back to its words
-  pub back : (n : Name) → proper n ≡ true → text_to_name_answer (name_text n) ≡ Done n
+  pub back : (n : Name) → proper n ≡ true → text_to_name_answer (name_text n) ≡ Ok n
   -- every accepted text is the text of its words
-  pub forth : (t : List ℕ) (n : Name) → text_to_name_answer t ≡ Done n → AcceptedText t n
+  pub forth : (t : List ℕ) (n : Name) → text_to_name_answer t ≡ Ok n → AcceptedText t n
   -- 01, Names and directories: "room for 19 bytes"
   pub room : (n : Name) → proper n ≡ true → length (name_text n) ≤ 19

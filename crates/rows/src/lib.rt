@@ -16,7 +16,7 @@ use image::blocks::block;
 use pointers::{first_pointer, pointer_count, pointer_lbn, pointer_number};
 use volume::{Places, Volume};
 
-// What the pointers walked so far tell of the row from a place on.
+// What the pointers walked so far tell of the row from a place on. Three states, so neither Option nor Result is plainer.
 #[derive(Clone, Copy)]
 pub enum Row {
     // The place lies so many blocks past them.
@@ -28,27 +28,19 @@ pub enum Row {
 }
 
 // What a row that is known up to some pointer comes to with the next pointer, of c blocks from an LBN on.
+#[tactic(auto, unfolding(crate::specs::Rows::carried_on))]
 fn carry_on(row: Row, from: Lbn, c: u32) -> Row
     requires { (c ≤ 256) × (from.0 < 2 ^ 24) }
     ensures { result ≡ carried_on row from.0 c }
 {
     match row {
-        Row::Ahead(k) => {
-            if k < c {
-                Row::Open(Lbn(from.0 + k), c - k)
-            } else {
-                Row::Ahead(k - c)
-            }
+        Row::Ahead(k) if k < c => Row::Open(Lbn(from.0 + k), c - k),
+        Row::Ahead(k) => Row::Ahead(k - c),
+        // In 64 bits the sum fits whatever the row.
+        Row::Open(lbn, long) if u64::from(lbn.0) + u64::from(long) == u64::from(from.0) => {
+            Row::Open(lbn, long + c)
         }
-        Row::Open(lbn, long) => {
-            // In 64 bits the sum fits whatever the row.
-            if (lbn.0 as u64) + (long as u64) == (from.0 as u64) {
-                Row::Open(lbn, long + c)
-            } else {
-                Row::Ended(lbn, long)
-            }
-        }
-        Row::Ended(lbn, long) => Row::Ended(lbn, long),
+        Row::Open(lbn, long) | Row::Ended(lbn, long) => Row::Ended(lbn, long),
     }
 }
 
@@ -60,12 +52,10 @@ fn row_over(h: &[u8], row: Row) -> Row
     let at = first_pointer(h);
     let number = pointer_number(h);
     let mut carried = row;
-    let mut p: usize = 0;
-    while p < number {
+    for p in 0..number {
         let from = pointer_lbn(h, at + 4 * p);
         let c = pointer_count(h, at + 4 * p);
         carried = carry_on(carried, from, c);
-        p += 1;
     }
     carried
 }
@@ -77,13 +67,13 @@ pub fn row_of(image: &[u8], v: Volume, places: &Places, n: FileNumber, lbn: Lbn,
 {
     let mut h = block(image, lbn);
     let mut row = Row::Ahead(i);
+    // A loop, not a for: the chain goes on as its links say.
     loop {
         row = row_over(h, row);
-        let n = m_efnu(h) as u32;
-        if n == 0 {
+        let next = FileNumber(u32::from(m_efnu(h)));
+        if next.0 == 0 {
             return row;
         }
-        let next = next_header(image, v, places, h, FileNumber(n));
-        h = next;
+        h = next_header(image, v, places, h, next);
     }
 }

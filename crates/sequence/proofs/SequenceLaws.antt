@@ -1,13 +1,13 @@
 -- An ID with another sequence number is refused: a file that opens has the sequence number of its ID.
+use Rattle.answer.specs.Outcome.{Outcome}
+use Rattle.std.specs.Prelude.{Ok, Err}
 use mathlib.Core.Path.{◌≡◌, refl}
 use mathlib.Core.List.{List}
 use Prim.Native.Nat.{ℕ}
 use Rattle.answer.specs.declared.types.FileId.{FileId}
 use Rattle.answer.specs.declared.types.Name.{Name}
 use Rattle.answer.specs.declared.refusal.Refusal.TheVariants as refusal
-use Rattle.answer.specs.declared.outcome.Outcome.{Outcome}
-use Rattle.answer.specs.declared.outcome.Outcome.TheVariants.{Passed, Refused}
-use Rattle.answer.specs.Answers.{lbn_answer, count_answer, bare_answer}
+use Rattle.answer.specs.Answers.{answer_of}
 use Rattle.answer.proofs.RefusalLaws.{refused-number}
 use Rattle.open_file.specs.Opening.{anyone, open_file_answer}
 use Rattle.mapping.specs.Mapping.{map_answer}
@@ -32,7 +32,7 @@ module _ (image : List ℕ) (id : FileId) (other : OtherSequence image id) where
   opens = refuses anyone image id other
 
   open-file-asked : IsRefused (count_words (open_file_answer image id))
-  unfolding open_file_answer count_answer
+  unfolding open_file_answer answer_of
   open-file-asked = rw opens.is (refused-number opens.why)
 
   map-asked : (vbn : ℕ) → IsRefused (lbn_words (map_answer image id vbn))
@@ -54,20 +54,20 @@ module _ (image : List ℕ) (id : FileId) (other : OtherSequence image id) where
   extent-asked vbn = rw (extent-refused image id vbn opens.why opens.is) (refused-number opens.why)
 
   extend-asked : (count b h : ℕ) → IsRefused (lbn_words (extend_answer image id count b h))
-  unfolding extend_answer lbn_answer
+  unfolding extend_answer answer_of
   extend-asked count b h = go (extend_outcome image id count b h) refl
     where
       go : (o : Outcome) → extend_outcome image id count b h ≡ o → IsRefused (lbn_words (extend_answer image id count b h))
-      go Passed e = absurd (other (extend-passed image id count b h e).opens.found.sequence)
-      go (Refused r) e = rw e (refused-number r)
+      go (Ok tt) e = absurd (other (extend-passed image id count b h e).opens.found.sequence)
+      go (Err r) e = rw e (refused-number r)
 
   delete-asked : (b h : ℕ) → IsRefused (bare_words (delete_answer image id b h))
-  unfolding delete_answer bare_answer
+  unfolding delete_answer answer_of
   delete-asked b h = go (delete_outcome image id b h) refl
     where
       go : (o : Outcome) → delete_outcome image id b h ≡ o → IsRefused (bare_words (delete_answer image id b h))
-      go Passed e = absurd (other (delete-passed image id b h e).opens.found.sequence)
-      go (Refused r) e = rw e (refused-number r)
+      go (Ok tt) e = absurd (other (delete-passed image id b h e).opens.found.sequence)
+      go (Err r) e = rw e (refused-number r)
 
 pub sequence-asked : SequenceAsked
 sequence-asked = record {

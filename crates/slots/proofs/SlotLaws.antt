@@ -10,14 +10,14 @@ use borrow.Author.Tests.{leb-true, le-leb}
 use lib.Dec.{eqb, leb}
 use lib.ListN.{length, get_or, take, drop, length-append, get_or-append}
 use lib.Seq.{get_or-append-add, take_all}
-use Rattle.image.specs.Words.{Bytes}
+use Rattle.image.specs.Words.{Bytes, byte_at}
 use Rattle.image.specs.Blocks.{region, block}
 use Rattle.image.specs.Bits.{bit_at}
 use Rattle.image.proofs.BlockLaws.{block-length}
 use Rattle.pointers.specs.Pointers.{pointer_lbn, pointer_count, runs, pointers_at, pointers, blocks_of, InPointer}
 use Rattle.pointers.proofs.PointerLaws.{runs_none, runs-length, in-pointer}
 use Rattle.home.specs.Home.{blocks}
-use Rattle.volume.specs.Volume.{ibsz, fmax, index_header, places, index, slot, slots, header, index_map, in_use}
+use Rattle.volume.specs.Volume.{ibsz, fmax, volume_of, index_header, places, index, slot, slots, header, index_map, in_use}
 use Rattle.pointers.specs.Pointers.{flat}
 use Rattle.volume.specs.declared.Volume.{Volume}
 use Rattle.volume.specs.Volume.{map_blocks}
@@ -262,10 +262,11 @@ module _ (image : List ℕ) (n : ℕ) where
   bit-inside o l h = omega (arith, index_map-length o, o.maps)
 
 -- What a pass over the numbers of an opened volume reads: the region of the index map, and in it the bit of each number.
+pub fmax_few : (image : List ℕ) (v : Volume) → v ≡ volume_of image → ((i : ℕ) → byte_at image i < 256) → v.fmax < 65536
+fmax_few image v e bytes = omega (arith, (says image v e).fmax, fmax-below image (record { each = bytes }))
+
 pub opened-fmax : (image : List ℕ) (v : Volume) {at : List ℕ} → Recorded image v at → Bytes image → (v.fmax ≡ fmax image) × (v.fmax < 65536)
-opened-fmax image v o bytes =
-    let e = (says image v o.1).fmax in
-    (e, omega (arith, e, fmax-below image bytes))
+opened-fmax image v o bytes = ((says image v o.1).fmax, fmax_few image v o.1 bytes.each)
 
 module _ (image : List ℕ) (v : Volume) {at : List ℕ} (o : Recorded image v at) (map : List ℕ) (read : map ≡ region image v.iblb.0 v.ibsz) where
   map_read : map ≡ index_map image

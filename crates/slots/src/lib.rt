@@ -10,7 +10,7 @@ ghost use Rattle.slots.specs.Slots.{RunOf, Stands, Begins};
 
 use answer::types::{FileNumber, Lbn, Vbn};
 use image::blocks::{block, block_inside};
-use pointers::{Spot, first_pointer, pointer_count, pointer_lbn, pointer_number, spot_of};
+use pointers::{first_pointer, pointer_count, pointer_lbn, pointer_number, spot_of};
 use volume::{Places, Volume, slot_vbn};
 
 // Slots that lie in a row: what is left of a retrieval pointer of the index file.
@@ -33,15 +33,14 @@ fn run_at(h: &[u8], vbn: Vbn) -> SlotRun
         × (1 ≤ result.left → (result.segment ≡ 0) × (result.pointer < pointers h.now)
         × (vbn.0 - 1 + result.left ≡ length (runs h.now (pointers_at h.now) (result.pointer + 1)))) }
 {
-    let spot = spot_of(h, vbn.0 - 1);
-    match spot {
-        Spot::In(lbn, left, pointer) => SlotRun {
-            lbn,
-            left,
+    match spot_of(h, vbn.0 - 1) {
+        Ok(spot) => SlotRun {
+            lbn: spot.lbn,
+            left: spot.left,
             segment: 0,
-            pointer,
+            pointer: spot.pointer,
         },
-        Spot::Past(_) => SlotRun {
+        Err(_) => SlotRun {
             lbn: Lbn(0),
             left: 0,
             segment: 1,
@@ -51,6 +50,7 @@ fn run_at(h: &[u8], vbn: Vbn) -> SlotRun
 }
 
 // The run of slots that begins at one of the first sixteen numbers, whose slots header 1 has.
+#[tactic(auto, using(volume::proofs::VolumeLaws::open_room))]
 pub fn slot_run(image: &[u8], v: Volume, n: FileNumber) -> SlotRun
     requires { Open image.now v × (n.0 ≤ 16) }
     ensures { Stands image.now n.0 result }
@@ -62,16 +62,14 @@ pub fn slot_run(image: &[u8], v: Volume, n: FileNumber) -> SlotRun
 
 // The run of slots that begins at a file number, where pointer p of header k of the index file begins with its slot, or would: those of that pointer or,
 // past the header's last, of the first pointer of a header after it.
+#[tactic(auto, using(volume::proofs::VolumeLaws::segments_few))]
 fn run_from(image: &[u8], v: Volume, places: &Places, n: FileNumber, k: usize, p: usize) -> SlotRun
     requires { Recorded image.now v places.now × Begins image.now n.0 k p }
     ensures { Stands image.now n.0 result }
 {
-    let count = v.segments;
-    let mut segment = k;
     let mut pointer = p;
-    while segment < count {
-        let header = places[segment];
-        let h = block_inside(image, Lbn(header));
+    for segment in k..v.segments {
+        let h = block_inside(image, Lbn(places[segment]));
         if pointer < pointer_number(h) {
             let at = first_pointer(h) + 4 * pointer;
             return SlotRun {
@@ -81,13 +79,12 @@ fn run_from(image: &[u8], v: Volume, places: &Places, n: FileNumber, k: usize, p
                 pointer,
             };
         }
-        segment += 1;
         pointer = 0;
     }
     SlotRun {
         lbn: Lbn(0),
         left: 0,
-        segment,
+        segment: v.segments,
         pointer: 0,
     }
 }
@@ -97,8 +94,7 @@ pub fn next_run(image: &[u8], v: Volume, places: &Places, n: FileNumber, run: Sl
     requires { Recorded image.now v places.now × Stands image.now n.0 run × (n.0 < 2 ^ 31) }
     ensures { Stands image.now (n.0 + 1) result }
 {
-    let left = run.left;
-    if left < 2 {
+    if run.left < 2 {
         return run_from(
             image,
             v,
@@ -110,8 +106,7 @@ pub fn next_run(image: &[u8], v: Volume, places: &Places, n: FileNumber, run: Sl
     }
     SlotRun {
         lbn: Lbn(run.lbn.0 + 1),
-        left: left - 1,
-        segment: run.segment,
-        pointer: run.pointer,
+        left: run.left - 1,
+        ..run
     }
 }

@@ -1,4 +1,5 @@
 -- The verdict answers DONE exactly where the image opens and is sound: its rules one after the other, each with the part that it stands for.
+use Rattle.std.specs.Prelude.{Ok, Err}
 use mathlib.Core.Path.{◌≡◌, refl}
 use mathlib.Core.Bool.{true, false≢true, ◌&&◌}
 use mathlib.Core.List.{List}
@@ -8,16 +9,15 @@ use lib.Dec.{leb}
 use lib.ListN.{length}
 use borrow.Author.Tests.{le-leb}
 use Rattle.answer.specs.declared.refusal.Refusal.TheVariants as refusal
-use Rattle.answer.specs.declared.outcome.Outcome.{Outcome}
-use Rattle.answer.specs.declared.outcome.Outcome.TheVariants.{Passed, Refused}
-use Rattle.answer.specs.Outcome.{unless}
+use Rattle.answer.specs.Outcome.{unless, Outcome}
+use Rattle.answer.specs.Answers.{answer_of}
 use Rattle.answer.proofs.OutcomeLaws.{passed_then, then-passed}
 use Rattle.home.specs.Home.{blocks, position, home_index}
 use Rattle.volume.specs.Volume.{fmax}
 use Rattle.volume.specs.Opening.{open_volume}
 use Rattle.volume.proofs.VolumeLaws.{opens}
 use Rattle.verdict.specs.declared.Counts.{Counts}
-use Rattle.verdict.specs.Verdict.{roomy, ready, verdict, counts_of, judge_by, judge_answer}
+use Rattle.verdict.specs.Verdict.{roomy, ready, verdict, counts_of, judge_answer}
 use Rattle.sound.specs.Sound.{BlockOf, Sound}
 use Rattle.sound.specs.Claims.{is_done, VerdictExact}
 use Rattle.sound.proofs.Tests.{Judges, j-map, j-then}
@@ -63,14 +63,14 @@ parts_are image sound =
     )
 
 -- Areas that are long enough leave only the opening to be passed.
-ready-judges : (image : List ℕ) (b h : ℕ) → blocks image ≤ b → fmax image ≤ h → Judges (ready image b h) (open_volume image ≡ Passed)
+ready-judges : (image : List ℕ) (b h : ℕ) → blocks image ≤ b → fmax image ≤ h → Judges (ready image b h) (open_volume image ≡ Ok tt)
 unfolding ready unless roomy
 ready-judges image b h room rest = record {
   yields = λ e. (passed_then (open_volume image) (unless (leb (blocks image) b && leb (fmax image) h) refusal.Work) e).0;
   holds = λ o. rw (then-passed (open_volume image) (unless (leb (blocks image) b && leb (fmax image) h) refusal.Work) o, le-leb (blocks image) b room, le-leb (fmax image) h rest);
 }
 
-pub verdict-judges : (image : List ℕ) (b h : ℕ) → blocks image ≤ b → fmax image ≤ h → Judges (verdict image b h) ((open_volume image ≡ Passed) × Sound image)
+pub verdict-judges : (image : List ℕ) (b h : ℕ) → blocks image ≤ b → fmax image ≤ h → Judges (verdict image b h) ((open_volume image ≡ Ok tt) × Sound image)
 unfolding verdict
 verdict-judges image b h room rest =
     j-then (ready-judges image b h room rest) (λ o.
@@ -80,13 +80,13 @@ verdict-judges image b h room rest =
     j-then (twice-judges image f.whole) (λ once.
     j-then (home-judges image) (λ passed. map-judges image))))))
 
-done-judged : (o : Outcome) (counts : Counts) → is_done (judge_by o counts) ≡ true → o ≡ Passed
-unfolding judge_by
-done-judged Passed counts e = refl
-done-judged (Refused r) counts e = absurd (false≢true e)
+done-judged : (o : Outcome) (counts : Counts) → is_done (answer_of o counts) ≡ true → o ≡ Ok tt
+unfolding answer_of
+done-judged (Ok tt) counts e = refl
+done-judged (Err r) counts e = absurd (false≢true e)
 
-judged-done : (o : Outcome) (counts : Counts) → o ≡ Passed → is_done (judge_by o counts) ≡ true
-unfolding judge_by
+judged-done : (o : Outcome) (counts : Counts) → o ≡ Ok tt → is_done (answer_of o counts) ≡ true
+unfolding answer_of
 judged-done o counts e = rw e
 
 pub exact : VerdictExact

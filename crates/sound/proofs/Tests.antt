@@ -1,4 +1,5 @@
 -- Tests, and what they test: a test that is met, one that an offender meets, and a rule that asks it of a row of numbers.
+use Rattle.std.specs.Prelude.{Ok}
 use mathlib.Core.Path.{◌≡◌, refl, sym, ◌∙◌}
 use mathlib.Core.Bool.{Bool, true, false, false≢true, not, ◌&&◌, ◌||◌}
 use Prim.Native.Nat.{ℕ, ◌+◌, ◌≤◌, ◌<◌}
@@ -8,9 +9,7 @@ use lib.Dec.{eqb, leb, ltb}
 use Rattle.lists.specs.First.{first}
 use Rattle.lists.proofs.FirstLaws.{first-has, first-is}
 use Rattle.answer.specs.declared.refusal.Refusal.{Refusal}
-use Rattle.answer.specs.declared.outcome.Outcome.{Outcome}
-use Rattle.answer.specs.declared.outcome.Outcome.TheVariants.{Passed}
-use Rattle.answer.specs.Outcome.{unless, ◌then◌}
+use Rattle.answer.specs.Outcome.{unless, ◌then◌, Outcome}
 use Rattle.answer.proofs.OutcomeLaws.{then-passed, passed_then, passed-last}
 
 -- The test b is met exactly where P.
@@ -25,8 +24,8 @@ pub record Spares (b : Bool) (P : Type 0) : Type 0 where
 
 -- The rule comes to o, and is passed exactly where P.
 pub record Judges (o : Outcome) (P : Type 0) : Type 0 where
-  pub yields : o ≡ Passed → P
-  pub holds : P → o ≡ Passed
+  pub yields : o ≡ Ok tt → P
+  pub holds : P → o ≡ Ok tt
 
 pub t-eq : (a b : ℕ) → Tests (eqb a b) (a ≡ b)
 t-eq a b = record { yields = eqb-true a b; holds = eq-eqb a b }

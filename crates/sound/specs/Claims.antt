@@ -1,26 +1,25 @@
 -- What is claimed of the verdict and of sound images, as types. 00, 3; 01, Demand 3.
-use Rattle.std.specs.Prelude.{◌≡◌, Bool, true, false, List, ℕ, ◌+◌, ◌≤◌, ◌<◌, length, get_or}
-use Rattle.answer.specs.declared.outcome.Outcome.TheVariants.{Passed}
+use Rattle.verdict.specs.declared.Counts.{Counts}
+use Rattle.answer.specs.Outcome.{Answer}
+use Rattle.std.specs.Prelude.{◌≡◌, Bool, true, false, List, ℕ, ◌+◌, ◌≤◌, ◌<◌, length, get_or, Ok, Err}
 use Rattle.header.specs.Fields.{segment}
 use Rattle.home.specs.Home.{blocks, position, home_index, home}
 use Rattle.volume.specs.Volume.{ibsz, iblb, fmax, slot, slots, header, in_use, map_blocks, base}
 use Rattle.volume.specs.Opening.{open_volume}
 use Rattle.chains.specs.Chains.{file_blocks}
-use Rattle.verdict.specs.declared.JudgeAnswer.{JudgeAnswer}
-use Rattle.verdict.specs.declared.JudgeAnswer.TheVariants.{Done, Refused}
 use Rattle.verdict.specs.Verdict.{claimed, free, judge_answer}
 use Rattle.sound.specs.Sound.{BlockOf, Safe, Sound}
 
 -- The verdict answers DONE.
-abbrev pub is_done : JudgeAnswer → Bool
-is_done (Done counts) = true
-is_done (Refused r) = false
+abbrev pub is_done : Answer Counts → Bool
+is_done (Ok counts) = true
+is_done (Err r) = false
 
 -- 01, Demand 3: "An image is accepted where the verdict on it, with work areas of N and H.FMAX bytes or more and any content, answers DONE. It opens
 -- where none of 1 to 5 is given." 00, 3: "the verdict accepts an image exactly when it opens and is sound".
 pub record Exactly (image area headers : List ℕ) : Type 0 where
-  pub only : is_done (judge_answer image area headers) ≡ true → (open_volume image ≡ Passed) × Sound image
-  pub always : open_volume image ≡ Passed → Sound image → is_done (judge_answer image area headers) ≡ true
+  pub only : is_done (judge_answer image area headers) ≡ true → (open_volume image ≡ Ok tt) × Sound image
+  pub always : open_volume image ≡ Ok tt → Sound image → is_done (judge_answer image area headers) ≡ true
 
 abbrev pub VerdictExact : Type 0
 VerdictExact = (image area headers : List ℕ) → blocks image ≤ length area → fmax image ≤ length headers → Exactly image area headers
@@ -51,4 +50,4 @@ pub record Apart (image : List ℕ) : Type 0 where
   pub passed : (i : ℕ) → i < home_index image → BlockOf image 3 (position i)
 
 abbrev pub BlocksApart : Type 0
-BlocksApart = (image : List ℕ) → open_volume image ≡ Passed → Safe image → Apart image
+BlocksApart = (image : List ℕ) → open_volume image ≡ Ok tt → Safe image → Apart image

@@ -18,6 +18,7 @@ fn with_bit(b: u8, k: u8, v: u8) -> u8
 }
 
 // Bit j made v.
+#[tactic(auto, unfolding(image::specs::Stores::put_bit))]
 pub fn put_bit(map: &mut [u8], j: usize, v: u8)
     requires { (j / 8 < length map.old) × (v < 2) }
     ensures { map.new ≡ put_bit map.old j v }
@@ -32,14 +33,13 @@ pub fn put_run(map: &mut [u8], s: usize, c: usize, v: u8)
     requires { ((s + c + 7) / 8 ≤ length map.old) × (s + c < 2 ^ 64) × (v < 2) }
     ensures { map.new ≡ put_bits map.old (numbers_from s c) v }
 {
-    let mut i: usize = 0;
-    while i < c {
+    for i in 0..c {
         put_bit(map, s + i, v);
-        i += 1;
     }
 }
 
 // The word v at a place, low byte first.
+#[tactic(auto, unfolding(image::specs::Stores::put_word))]
 pub fn put_word(b: &mut [u8], at: usize, v: u16)
     requires { at + 1 < length b.old }
     ensures { b.new ≡ put_word b.old at v }
@@ -49,15 +49,11 @@ pub fn put_word(b: &mut [u8], at: usize, v: u16)
 }
 
 // Every byte 0.
+#[tactic(auto, unfolding(image::specs::Stores::zeros))]
 pub fn clear(b: &mut [u8])
     ensures { b.new ≡ zeros (length b.old) }
 {
-    let n = b.len();
-    let mut i: usize = 0;
-    while i < n {
-        b[i] = 0;
-        i += 1;
-    }
+    b.fill(0);
 }
 
 // Bit j of the map in the q blocks from an LBN on made v.

@@ -16,6 +16,7 @@ use Rattle.answer.specs.declared.types.Name.{Name}
 use Rattle.radix50.specs.Words.{codes}
 use Rattle.names.specs.Names.{name_codes}
 use Rattle.names.proofs.NameLaws.{kept-most}
+use Rattle.names.proofs.ProperLaws.{proper-parts}
 use Rattle.text.specs.Text.{digits, decimal, text_of, name_text}
 
 -- ---- what is written behind what was written
@@ -83,11 +84,11 @@ pub decimal-most : (v : ℕ) → length (decimal v) ≤ 5
 unfolding decimal
 decimal-most v = digits-most 5 v
 
-pub decimal-length-one : (v : ℕ) → v < 10 → length (decimal v) ≡ 1
-decimal-length-one v h = ap length (decimal-one v h)
+pub decimal_length_one : (v : ℕ) → v < 10 → length (decimal v) ≡ 1
+decimal_length_one v h = ap length (decimal-one v h)
 
-pub decimal-length-more : (v : ℕ) → 10 ≤ v → v < 100000 → length (decimal v) ≡ 1 + length (decimal (v / 10))
-decimal-length-more v h l = ap length (decimal-more v h l) ∙ length-append (decimal (v / 10)) ((48 + v % 10) ∷ []) ∙ omega arith
+pub decimal_length_more : (v : ℕ) → 10 ≤ v → v < 100000 → length (decimal v) ≡ 1 + length (decimal (v / 10))
+decimal_length_more v h l = ap length (decimal-more v h l) ∙ length-append (decimal (v / 10)) ((48 + v % 10) ∷ []) ∙ omega arith
 
 -- The last of the first j + 1 digits, and what is left of the number once it is written.
 pub record Last (d : List ℕ) (v j : ℕ) : Type 0 where
@@ -105,11 +106,11 @@ decimal-last d v j small h e = go (dec_lt v 10)
 
     go : Dec (v < 10) → Last d v j
     go (yes l) =
-        let z : j ≡ 0 = omega (arith, long, decimal-length-one v l) in
+        let z : j ≡ 0 = omega (arith, long, decimal_length_one v l) in
         let w : v % 10 ≡ v = omega arith in
         record { digit = sym at ∙ rw (z, decimal-one v l, w); rest = λ p. absurd (omega arith) }
     go (no l) =
-        let n : length (decimal (v / 10)) ≡ j = omega (arith, long, decimal-length-more v (omega arith) small) in
+        let n : length (decimal (v / 10)) ≡ j = omega (arith, long, decimal_length_more v (omega arith) small) in
         record {
           digit = sym at ∙ rw (decimal-more v (omega arith) small) (get_or_at (decimal (v / 10)) (48 + v % 10) [] 0 j n);
           rest = λ p.
@@ -124,3 +125,6 @@ pub name-text-most : (n : Name) → length (name_text n) ≤ 19
 unfolding name_text text_of name_codes codes
 name-text-most n =
     simp length-append (omega (arith, kept-most (name_codes n), kept-most (codes n.typ), decimal-most n.version))
+
+-- That a name is proper by the lengths of its parts, and how long its text is.
+pub ruleset name_laws = (proper-parts, name-text-most)

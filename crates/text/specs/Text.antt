@@ -1,12 +1,11 @@
 -- The text of a name.
 -- 01, Names and directories: "Text: `NAME.TYP;V`, the dot always there, V decimal without leading zero, nothing after it; room for 19 bytes."
 -- Of the characters, 46 is the dot, 59 the semicolon and 48 the digit 0.
-use Rattle.std.specs.Prelude.{cond, List, [], ◌∷◌, ◌++◌, ℕ, zero, suc, ◌+◌, ◌/◌, ◌%◌, ltb, length}
+use Rattle.answer.specs.Outcome.{Answer}
+use Rattle.std.specs.Prelude.{cond, List, [], ◌∷◌, ◌++◌, ℕ, zero, suc, ◌+◌, ◌/◌, ◌%◌, ltb, length, Ok, Err}
 use Rattle.image.specs.Stores.{splice}
 use Rattle.answer.specs.declared.types.Name.{Name}
 use Rattle.answer.specs.declared.refusal.Refusal.TheVariants as refusal
-use Rattle.answer.specs.declared.answers.CountAnswer.{CountAnswer}
-use Rattle.answer.specs.declared.answers.CountAnswer.TheVariants.{Done, Refused}
 use Rattle.radix50.specs.Words.{codes}
 use Rattle.names.specs.Names.{kept, name_codes, proper}
 
@@ -31,10 +30,10 @@ name_text n = text_of (name_codes n) (codes n.typ) n.version
 
 -- The answer of the call from words to text, for a buffer of so many bytes. 01, Answer numbers: DONE has as value the "text length"; "Text calls: 28,
 -- then 14."
-unfoldable pub name_to_text_answer : Name → ℕ → CountAnswer
+unfoldable pub name_to_text_answer : Name → ℕ → Answer ℕ
 name_to_text_answer n room =
-    cond (ltb room 19) (Refused refusal.Room)
-    (cond (proper n) (Done (length (name_text n))) (Refused refusal.Name))
+    cond (ltb room 19) (Err refusal.Room)
+    (cond (proper n) (Ok (length (name_text n))) (Err refusal.Name))
 
 -- The buffer after that call. 01, Answer numbers: "Output buffers are unchanged" by a refusal; "Bytes after what is written stay."
 unfoldable pub text_after : Name → List ℕ → List ℕ

@@ -7,8 +7,7 @@ ghost use Rattle.image.specs.Stores.{splice};
 ghost use Rattle.names.specs.Names.{filled, kept};
 ghost use Rattle.text.specs.Text.{decimal, text_of, name_to_text_answer, text_after};
 
-use answer::answers::CountAnswer;
-use answer::refusal::Refusal;
+use answer::refusal::{Answer, Refusal};
 use answer::types::Name;
 use names::{filled_length, is_proper_parts, name_codes};
 use radix50::{char_of, codes_of};
@@ -18,31 +17,24 @@ fn put_codes(text: &mut [u8], at: usize, cs: &[u8], k: usize)
     requires { (filled cs.now ≡ true) × (k ≡ length (kept cs.now)) × (at + k ≤ length text.old) }
     ensures { text.new ≡ splice text.old at (kept cs.now) }
 {
-    let mut i: usize = 0;
-    while i < k {
+    for i in 0..k {
         text[at + i] = char_of(cs[i]);
-        i += 1;
     }
 }
 
 // How many decimal digits a number has.
+#[tactic(auto, using(crate::proofs::TextLaws::decimal_length_one, crate::proofs::TextLaws::decimal_length_more))]
 fn digit_count(v: u32) -> usize
     requires { v < 100000 }
     ensures { result ≡ length (decimal v) }
 {
-    if v < 10 {
-        return 1;
+    match v {
+        0..=9 => 1,
+        10..=99 => 2,
+        100..=999 => 3,
+        1000..=9999 => 4,
+        _ => 5,
     }
-    if v < 100 {
-        return 2;
-    }
-    if v < 1000 {
-        return 3;
-    }
-    if v < 10000 {
-        return 4;
-    }
-    5
 }
 
 // Writes a number in decimal, in its k digits, the last one first.
@@ -51,11 +43,9 @@ fn put_decimal(text: &mut [u8], at: usize, v: u32, k: usize)
     ensures { text.new ≡ splice text.old at (decimal v) }
 {
     let mut left = v;
-    let mut i = k;
-    while 0 < i {
-        i -= 1;
-        text[at + i] = 48 + (left % 10) as u8;
-        left = left / 10;
+    for i in (0..k).rev() {
+        text[at + i] = b'0' + (left % 10) as u8;
+        left /= 10;
     }
 }
 
@@ -80,7 +70,7 @@ fn put_name(
     put_codes(text, at, typ, short);
     let semicolon = at + short;
     text[semicolon] = b';';
-    let v = version as u32;
+    let v = u32::from(version);
     let k = digit_count(v);
     let next = semicolon + 1;
     put_decimal(text, next, v, k);
@@ -88,21 +78,20 @@ fn put_name(
 }
 
 // Writes the text of a name into a buffer of at least 19 bytes; the bytes after it stay.
-pub fn name_to_text(n: Name, text: &mut [u8]) -> CountAnswer
+#[tactic(auto, using(crate::proofs::TextLaws::name_laws), unfolding(crate::specs::Text::name_to_text_answer, crate::specs::Text::text_after, crate::specs::Text::name_text))]
+pub fn name_to_text(n: Name, text: &mut [u8]) -> Answer<u32>
     ensures { (result ≡ name_to_text_answer n (length text.old)) × (text.new ≡ text_after n text.old) }
 {
     if text.len() < 19 {
-        return CountAnswer::Refused(Refusal::Room);
+        return Err(Refusal::Room);
     }
-    let version = n.version;
     let name = name_codes(n);
     let typ = codes_of(n.typ);
     let long = filled_length(&name);
     let short = filled_length(&typ);
-    let good = is_proper_parts(long, short, version);
-    if good {
-        let len = put_name(text, &name, long, &typ, short, version);
-        return CountAnswer::Done(len as u32);
+    if !is_proper_parts(long, short, n.version) {
+        return Err(Refusal::Name);
     }
-    CountAnswer::Refused(Refusal::Name)
+    let len = put_name(text, &name, long, &typ, short, n.version);
+    Ok(len as u32)
 }

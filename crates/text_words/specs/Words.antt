@@ -1,10 +1,10 @@
 -- The answer words of the call that turns text into a name.
-use Rattle.std.specs.Prelude.{ℕ, List, [], ◌∷◌}
-use Rattle.answer.specs.Words.{done_words, refused_words}
-use Rattle.parse.specs.declared.TextToNameAnswer.{TextToNameAnswer}
-use Rattle.parse.specs.declared.TextToNameAnswer.TheVariants as answers
+use Rattle.answer.specs.declared.types.Name.{Name}
+use Rattle.answer.specs.Outcome.{Answer}
+use Rattle.answer.specs.Values.{name_value}
+use Rattle.answer.specs.Words.{words_of}
+use Rattle.std.specs.Prelude.{ℕ, List}
 
 -- 01, Answer numbers: DONE has as value the "name words".
-abbrev pub text_to_name_words : TextToNameAnswer → List ℕ
-text_to_name_words (answers.Done n) = done_words (n.name1 ∷ n.name2 ∷ n.name3 ∷ n.typ ∷ n.version ∷ [])
-text_to_name_words (answers.Refused r) = refused_words r
+abbrev pub text_to_name_words : Answer Name → List ℕ
+text_to_name_words = words_of name_value

@@ -1,4 +1,5 @@
 -- What is known where no test of a call refuses it.
+use Rattle.std.specs.Prelude.{Ok}
 use mathlib.Core.Path.{◌≡◌, refl, ap, ◌∙◌}
 use mathlib.Core.Bool.{true, false, not, and-eq-true_iff}
 use mathlib.Core.List.{List}
@@ -10,7 +11,6 @@ use Rattle.lists.proofs.FirstLaws.{first-has}
 use Rattle.answer.specs.declared.types.FileId.{FileId}
 use Rattle.answer.specs.declared.types.Name.{Name}
 use Rattle.answer.specs.declared.refusal.Refusal.TheVariants as refusal
-use Rattle.answer.specs.declared.outcome.Outcome.TheVariants.{Passed}
 use Rattle.answer.proofs.OutcomeLaws.{passed_then, passed_first, passed-last}
 use Rattle.names.specs.Names.{proper}
 use Rattle.header.specs.Fields.{h_fseq}
@@ -57,7 +57,7 @@ pub record CreatePassed (image : List ℕ) (name : Name) : Type 0 where
   pub high : spare_number image ≤ fmax image
   pub spare : Spare image (spare_number image)
 
-pub create-passed : (image : List ℕ) (name : Name) (b h : ℕ) → create_outcome image name b h ≡ Passed → CreatePassed image name
+pub create-passed : (image : List ℕ) (name : Name) (b h : ℕ) → create_outcome image name b h ≡ Ok tt → CreatePassed image name
 unfolding create_outcome create_tests
 create-passed image name b h e =
     let judged = passed_then (verdict image b h) _ e in
@@ -82,7 +82,7 @@ pub record DeletePassed (image : List ℕ) (id : FileId) : Type 0 where
   pub file : IsFile image id.number
   pub above : 6 ≤ id.number
 
-pub delete-passed : (image : List ℕ) (id : FileId) (b h : ℕ) → delete_outcome image id b h ≡ Passed → DeletePassed image id
+pub delete-passed : (image : List ℕ) (id : FileId) (b h : ℕ) → delete_outcome image id b h ≡ Ok tt → DeletePassed image id
 unfolding delete_outcome delete_tests
 delete-passed image id b h e =
     let judged = passed_then (verdict image b h) _ e in
@@ -102,7 +102,7 @@ pub record ExtendPassed (image : List ℕ) (id : FileId) (c : ℕ) : Type 0 wher
   pub room : has_room (header image (last_number image id.number)) ≡ true
   pub run : has_run image c ≡ true
 
-pub extend-tested : (image : List ℕ) (id : FileId) (c : ℕ) → extend_tests image id c ≡ Passed → ExtendPassed image id c
+pub extend-tested : (image : List ℕ) (id : FileId) (c : ℕ) → extend_tests image id c ≡ Ok tt → ExtendPassed image id c
 unfolding extend_tests
 extend-tested image id c e =
     let file = passed_then (open_file image id) _ e in
@@ -120,6 +120,6 @@ extend-tested image id c e =
       run = passed-last (has_run image c) refusal.Run room.1;
     }
 
-pub extend-passed : (image : List ℕ) (id : FileId) (c b h : ℕ) → extend_outcome image id c b h ≡ Passed → ExtendPassed image id c
+pub extend-passed : (image : List ℕ) (id : FileId) (c b h : ℕ) → extend_outcome image id c b h ≡ Ok tt → ExtendPassed image id c
 unfolding extend_outcome
 extend-passed image id c b h e = extend-tested image id c (passed_then (verdict image b h) (extend_tests image id c) e).1

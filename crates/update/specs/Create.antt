@@ -4,10 +4,8 @@ use Rattle.image.specs.Stores.{put_block, put_map_bits}
 use Rattle.answer.specs.declared.types.FileId.{FileId}
 use Rattle.answer.specs.declared.types.Name.{Name}
 use Rattle.answer.specs.declared.refusal.Refusal.TheVariants as refusal
-use Rattle.answer.specs.declared.outcome.Outcome.{Outcome}
-use Rattle.answer.specs.declared.answers.IdAnswer.{IdAnswer}
-use Rattle.answer.specs.Outcome.{unless, ◌then◌}
-use Rattle.answer.specs.Answers.{id_answer}
+use Rattle.answer.specs.Outcome.{unless, ◌then◌, Outcome, Answer}
+use Rattle.answer.specs.Answers.{answer_of}
 use Rattle.names.specs.Names.{proper}
 use Rattle.header.specs.Fields.{h_fseq}
 use Rattle.fresh_header.specs.Fresh.{fresh_header}
@@ -34,8 +32,8 @@ unfoldable pub new_id : List ℕ → FileId
 new_id image = record { number = spare_number image; sequence = new_sequence image (spare_number image); volume = 0 }
 
 -- The answer of create. 01, Answer numbers: DONE has as value the "ID (look-up, create)".
-unfoldable pub create_answer : List ℕ → Name → ℕ → ℕ → IdAnswer
-create_answer image name b h = id_answer (create_outcome image name b h) (new_id image)
+unfoldable pub create_answer : List ℕ → Name → ℕ → ℕ → Answer FileId
+create_answer image name b h = answer_of (create_outcome image name b h) (new_id image)
 
 -- Where the index map has the bit of number n. 01, Index file: "index map bit n−1".
 unfoldable pub index_bit : ℕ → ℕ

@@ -4,10 +4,7 @@ use Rattle.image.specs.Blocks.{block}
 use Rattle.image.specs.Stores.{put_block, put_map_bits}
 use Rattle.answer.specs.declared.types.FileId.{FileId}
 use Rattle.answer.specs.declared.refusal.Refusal.TheVariants as refusal
-use Rattle.answer.specs.declared.outcome.Outcome.{Outcome}
-use Rattle.answer.specs.declared.answers.BareAnswer.{BareAnswer}
-use Rattle.answer.specs.Outcome.{unless, ◌then◌}
-use Rattle.answer.specs.Answers.{bare_answer}
+use Rattle.answer.specs.Outcome.{unless, ◌then◌, Outcome}
 use Rattle.header_edit.specs.Cleared.{cleared_slot}
 use Rattle.home.specs.Home.{blocks}
 use Rattle.volume.specs.Volume.{ibsz, iblb, header, map_blocks, base}
@@ -28,8 +25,8 @@ unfoldable pub delete_outcome : List ℕ → FileId → ℕ → ℕ → Outcome
 delete_outcome image id b h = verdict image b h then delete_tests image id
 
 -- The answer of delete. 01, Answer numbers: DONE has as value "0 for delete".
-unfoldable pub delete_answer : List ℕ → FileId → ℕ → ℕ → BareAnswer
-delete_answer image id b h = bare_answer (delete_outcome image id b h)
+unfoldable pub delete_answer : List ℕ → FileId → ℕ → ℕ → Outcome
+delete_answer image id b h = delete_outcome image id b h
 
 -- The bits of a list of numbers in the index map.
 unfoldable pub index_bits : List ℕ → List ℕ

@@ -1,12 +1,11 @@
 -- Extend: its answer, and the image after it.
+use Rattle.answer.specs.declared.types.Lbn.{Lbn}
 use Rattle.std.specs.Prelude.{Bool, not, ◌&&◌, List, ℕ, ◌+◌, leb, ltb}
 use Rattle.lists.specs.Lists.{numbers_from}
 use Rattle.image.specs.Stores.{put_block, put_map_bits}
 use Rattle.answer.specs.declared.types.FileId.{FileId}
 use Rattle.answer.specs.declared.refusal.Refusal.TheVariants as refusal
-use Rattle.answer.specs.declared.outcome.Outcome.{Outcome}
-use Rattle.answer.specs.declared.answers.LbnAnswer.{LbnAnswer}
-use Rattle.answer.specs.Outcome.{unless, ◌then◌}
+use Rattle.answer.specs.Outcome.{unless, ◌then◌, Outcome, Answer}
 use Rattle.answer.specs.Answers.{lbn_answer}
 use Rattle.header.specs.Fields.{m_use, m_max}
 use Rattle.header.specs.Flags.{is_fixed}
@@ -54,7 +53,7 @@ unfoldable pub extend_outcome : List ℕ → FileId → ℕ → ℕ → ℕ → 
 extend_outcome image id c b h = verdict image b h then extend_tests image id c
 
 -- The answer of extend. 01, Answer numbers: DONE has as value the "first new LBN (extend)".
-unfoldable pub extend_answer : List ℕ → FileId → ℕ → ℕ → ℕ → LbnAnswer
+unfoldable pub extend_answer : List ℕ → FileId → ℕ → ℕ → ℕ → Answer Lbn
 extend_answer image id c b h = lbn_answer (extend_outcome image id c b h) (run_start image c)
 
 -- The image with the c blocks from LBN s on taken, and then a pointer to them in the header of number n. 02, 11/14: "extend writes storage map, .. then

@@ -13,6 +13,7 @@ use std::io::Read;
 use volume::map_blocks;
 
 // Reads until the buffer is full or the input ends, and returns how many bytes it put at the buffer's start.
+// Written by hand: std's `read_exact` calls a short input an error, and `read_to_end` needs a heap.
 fn fill(input: &mut impl Read, buffer: &mut [u8]) -> io::Result<usize>
     ensures { ReadsAtMost result buffer.new }
 {
@@ -27,82 +28,40 @@ fn fill(input: &mut impl Read, buffer: &mut [u8]) -> io::Result<usize>
     Ok(filled)
 }
 
-// Writes text.
-fn say(rt: &impl Print, text: &str) -> io::Result<()> {
-    print!(rt; "{text}")
-}
-
-// Writes a number.
-fn tell(rt: &impl Print, n: u64) -> io::Result<()> {
-    print!(rt; "{n}")
-}
-
-// Writes a file ID.
-fn tell_id(rt: &impl Print, number: u16, sequence: u16) -> io::Result<()> {
-    say(rt, " ")?;
-    tell(rt, number as u64)?;
-    say(rt, ",")?;
-    tell(rt, sequence as u64)?;
-    say(rt, ",0")
-}
-
-// Writes a value word.
-fn tell_value(rt: &impl Print, n: u64) -> io::Result<()> {
-    say(rt, " ")?;
-    tell(rt, n)
-}
-
 // Writes an answer: its number, its place and its value words, of which no call uses more than nine.
 fn show(rt: &impl Print, answer: &[u64; 12]) -> io::Result<()> {
-    say(rt, ": answer ")?;
-    tell(rt, answer[0])?;
-    say(rt, " place ")?;
-    tell(rt, answer[1])?;
-    say(rt, " value")?;
-    tell_value(rt, answer[2])?;
-    tell_value(rt, answer[3])?;
-    tell_value(rt, answer[4])?;
-    tell_value(rt, answer[5])?;
-    tell_value(rt, answer[6])?;
-    tell_value(rt, answer[7])?;
-    tell_value(rt, answer[8])?;
-    tell_value(rt, answer[9])?;
-    tell_value(rt, answer[10])?;
-    say(rt, "\n")
+    print!(rt; ": answer {} place {} value", answer[0], answer[1])?;
+    for word in &answer[2..11] {
+        print!(rt; " {word}")?;
+    }
+    println!(rt; "")
 }
 
 fn open_volume(rt: &impl Print, image: &[u8]) -> io::Result<()> {
     let mut answer = [0u64; 12];
     ods1_open_volume(image, &mut answer);
-    say(rt, "open volume")?;
+    print!(rt; "open volume")?;
     show(rt, &answer)
 }
 
 fn open_file(rt: &impl Print, image: &[u8], number: u16, sequence: u16) -> io::Result<()> {
     let mut answer = [0u64; 12];
     ods1_open_file(image, number, sequence, 0, &mut answer);
-    say(rt, "open file")?;
-    tell_id(rt, number, sequence)?;
+    print!(rt; "open file {number},{sequence},0")?;
     show(rt, &answer)
 }
 
 fn map(rt: &impl Print, image: &[u8], number: u16, sequence: u16, vbn: u32) -> io::Result<()> {
     let mut answer = [0u64; 12];
     ods1_map(image, number, sequence, 0, vbn, &mut answer);
-    say(rt, "map")?;
-    tell_id(rt, number, sequence)?;
-    say(rt, " VBN ")?;
-    tell(rt, vbn as u64)?;
+    print!(rt; "map {number},{sequence},0 VBN {vbn}")?;
     show(rt, &answer)
 }
 
 fn block(rt: &impl Print, image: &[u8], number: u16, sequence: u16, vbn: u32) -> io::Result<()> {
     let mut answer = [0u64; 12];
     ods1_block(image, number, sequence, 0, vbn, &mut answer);
-    say(rt, "block")?;
-    tell_id(rt, number, sequence)?;
-    say(rt, " VBN ")?;
-    tell(rt, vbn as u64)?;
+    print!(rt; "block {number},{sequence},0 VBN {vbn}")?;
     show(rt, &answer)
 }
 
@@ -110,24 +69,19 @@ fn block(rt: &impl Print, image: &[u8], number: u16, sequence: u16, vbn: u32) ->
 fn look_up(rt: &impl Print, image: &[u8]) -> io::Result<()> {
     let mut answer = [0u64; 12];
     ods1_look_up(image, 4, 4, 0, 29001, 7160, 0, 6460, 1, &mut answer);
-    say(rt, "look up READS.DAT;1 in 4,4,0")?;
+    print!(rt; "look up READS.DAT;1 in 4,4,0")?;
     show(rt, &answer)
 }
 
 fn next_record(rt: &impl Print, image: &[u8], place: u32) -> io::Result<()> {
     let mut answer = [0u64; 12];
     ods1_next_record(image, 4, 4, 0, place, &mut answer);
-    say(rt, "next record in 4,4,0 from ")?;
-    tell(rt, place as u64)?;
+    print!(rt; "next record in 4,4,0 from {place}")?;
     show(rt, &answer)
 }
 
 fn storage_map_of(rt: &impl Print, blocks: u32) -> io::Result<()> {
-    say(rt, "q at N ")?;
-    tell(rt, blocks as u64)?;
-    say(rt, ": ")?;
-    tell(rt, map_blocks(blocks) as u64)?;
-    say(rt, "\n")
+    println!(rt; "q at N {blocks}: {}", map_blocks(blocks))
 }
 
 // What each header of Volume V covers, from its first to its last VBN.
@@ -176,10 +130,7 @@ fn extend(
         &mut headers,
         &mut answer,
     );
-    say(rt, "extend")?;
-    tell_id(rt, number, sequence)?;
-    say(rt, " by ")?;
-    tell(rt, count as u64)?;
+    print!(rt; "extend {number},{sequence},0 by {count}")?;
     show(rt, &answer)
 }
 
@@ -201,7 +152,7 @@ fn create(rt: &impl Print, image: &mut [u8]) -> io::Result<()> {
         &mut headers,
         &mut answer,
     );
-    say(rt, "create READS.DAT;2")?;
+    print!(rt; "create READS.DAT;2")?;
     show(rt, &answer)
 }
 
@@ -218,8 +169,7 @@ fn delete(rt: &impl Print, image: &mut [u8], number: u16, sequence: u16) -> io::
         &mut headers,
         &mut answer,
     );
-    say(rt, "delete")?;
-    tell_id(rt, number, sequence)?;
+    print!(rt; "delete {number},{sequence},0")?;
     show(rt, &answer)
 }
 
@@ -228,7 +178,7 @@ fn judge(rt: &impl Print, image: &[u8]) -> io::Result<()> {
     let mut blocks = [0u8; 100];
     let mut headers = [0u8; 16];
     ods1_judge(image, &mut blocks, &mut headers, &mut answer);
-    say(rt, "judge")?;
+    print!(rt; "judge")?;
     show(rt, &answer)
 }
 
@@ -256,9 +206,7 @@ fn old_entry(rt: &impl Print, image: &mut [u8]) -> io::Result<()> {
 fn main(rt: HostRuntime) -> io::Result<()> {
     let mut image = [0u8; 51200];
     let n = fill(&mut rt.stdin(), &mut image)?;
-    say(&rt, "bytes ")?;
-    tell(&rt, n as u64)?;
-    say(&rt, "\n")?;
+    println!(rt; "bytes {n}")?;
     open_volume(&rt, &image)?;
     covers(&rt, &image)?;
     directory(&rt, &image)?;

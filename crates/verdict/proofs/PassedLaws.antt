@@ -1,4 +1,5 @@
 -- What holds where the verdict is passed.
+use Rattle.std.specs.Prelude.{Ok}
 use mathlib.Core.Path.{◌≡◌, refl}
 use mathlib.Core.Bool.{true, and-eq-true_iff}
 use mathlib.Core.List.{List}
@@ -7,7 +8,6 @@ use borrow.Author.Tests.{leb-true}
 use lib.Dec.{leb}
 use lib.ListN.{length}
 use Rattle.answer.specs.declared.refusal.Refusal.TheVariants as refusal
-use Rattle.answer.specs.declared.outcome.Outcome.TheVariants as outcome
 use Rattle.answer.specs.Outcome.{unless, ◌then◌}
 use Rattle.answer.proofs.OutcomeLaws.{passed_then, passed-last}
 use Rattle.home.specs.Home.{blocks}
@@ -28,31 +28,31 @@ module _ (image : List ℕ) (b h : ℕ) where
       let r = (and-eq-true_iff (leb (blocks image) b) (leb (fmax image) h)).0 t in
       (leb-true (blocks image) b r.0, leb-true (fmax image) h r.1)
 
-  module _ (p : verdict image b h ≡ outcome.Passed) where
-    parts : (ready image b h ≡ outcome.Passed) × ((files image then links image then twice image then bad_home image then bad_map image) ≡ outcome.Passed)
+  module _ (p : verdict image b h ≡ Ok tt) where
+    parts : (ready image b h ≡ Ok tt) × ((files image then links image then twice image then bad_home image then bad_map image) ≡ Ok tt)
     unfolding verdict
     parts = passed_then (ready image b h) (files image then links image then twice image then bad_home image then bad_map image) p
 
-    opening : (open_volume image ≡ outcome.Passed) × (unless (roomy image b h) refusal.Work ≡ outcome.Passed)
+    opening : (open_volume image ≡ Ok tt) × (unless (roomy image b h) refusal.Work ≡ Ok tt)
     unfolding ready
     opening = passed_then (open_volume image) (unless (roomy image b h) refusal.Work) parts.0
 
-    pub passed-opens : open_volume image ≡ outcome.Passed
+    pub passed-opens : open_volume image ≡ Ok tt
     passed-opens = opening.0
 
     pub passed-room : (blocks image ≤ b) × (fmax image ≤ h)
     passed-room = roomy-is (passed-last (roomy image b h) refusal.Work opening.1)
 
-    pub passed-files : files image ≡ outcome.Passed
+    pub passed-files : files image ≡ Ok tt
     passed-files = (passed_then (files image) (links image then twice image then bad_home image then bad_map image) parts.1).0
 
-    pub passed-links : links image ≡ outcome.Passed
+    pub passed-links : links image ≡ Ok tt
     passed-links =
         (passed_then (links image) (twice image then bad_home image then bad_map image)
         (passed_then (files image) (links image then twice image then bad_home image then bad_map image) parts.1).1).0
 
 -- The block marks are reached.
-pub passed-marks : (image area headers : List ℕ) → verdict image (length area) (length headers) ≡ outcome.Passed
+pub passed-marks : (image area headers : List ℕ) → verdict image (length area) (length headers) ≡ Ok tt
     → block_marks image area headers ≡ tallied (covered image) 0 (blocks image) area
 unfolding block_marks afterwards ◌then◌
 passed-marks image area headers p =

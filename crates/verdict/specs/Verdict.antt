@@ -1,9 +1,8 @@
 -- The verdict: its answer, and what it leaves in the two work areas.
-use Rattle.std.specs.Prelude.{Bool, ◌&&◌, List, ℕ, leb, length}
+use Rattle.std.specs.Prelude.{Bool, ◌&&◌, List, ℕ, leb, length, Ok, Err}
 use Rattle.answer.specs.declared.refusal.Refusal.TheVariants as refusal
-use Rattle.answer.specs.declared.outcome.Outcome.{Outcome}
-use Rattle.answer.specs.declared.outcome.Outcome.TheVariants as outcome
-use Rattle.answer.specs.Outcome.{unless, ◌then◌}
+use Rattle.answer.specs.Outcome.{unless, ◌then◌, Outcome, Answer}
+use Rattle.answer.specs.Answers.{answer_of}
 use Rattle.home.specs.Home.{blocks}
 use Rattle.volume.specs.Volume.{fmax, in_use, storage_map, map_bits}
 use Rattle.volume.specs.Opening.{open_volume}
@@ -15,8 +14,6 @@ use Rattle.links.specs.Links.{linked, links}
 use Rattle.covers.specs.Covered.{covered, twice, bad_map}
 use Rattle.bad_home.specs.Homes.{bad_home}
 use Rattle.verdict.specs.declared.Counts.{Counts}
-use Rattle.verdict.specs.declared.JudgeAnswer.{JudgeAnswer}
-use Rattle.verdict.specs.declared.JudgeAnswer.TheVariants.{Done, Refused}
 
 -- 01, The verdict: "Two lent work areas, N and H.FMAX bytes or more." Areas of these lengths are long enough.
 unfoldable pub roomy : List ℕ → ℕ → ℕ → Bool
@@ -32,8 +29,8 @@ verdict image b h = ready image b h then files image then links image then twice
 
 -- A work area after a row of tests: new where they are passed, as it was where they are not.
 unfoldable pub afterwards : Outcome → List ℕ → List ℕ → List ℕ
-afterwards outcome.Passed old new = new
-afterwards (outcome.Refused r) old new = old
+afterwards (Ok tt) old new = new
+afterwards (Err r) old new = old
 
 -- 01, The verdict: "After FILES passes, header mark n−1 is the number of headers in use whose M.EFNU is n, capped at 2"; "Marks not reached, and bytes
 -- beyond, are unchanged." What the area for header marks holds after the verdict.
@@ -65,10 +62,6 @@ headers_in_use image = how_many (in_use image) 1 (fmax image)
 unfoldable pub counts_of : List ℕ → Counts
 counts_of image = record { blocks = blocks image; claimed = claimed image; free = free image; headers = headers_in_use image }
 
-unfoldable pub judge_by : Outcome → Counts → JudgeAnswer
-judge_by outcome.Passed counts = Done counts
-judge_by (outcome.Refused r) counts = Refused r
-
 -- The answer of the verdict.
-unfoldable pub judge_answer : List ℕ → List ℕ → List ℕ → JudgeAnswer
-judge_answer image area headers = judge_by (verdict image (length area) (length headers)) (counts_of image)
+unfoldable pub judge_answer : List ℕ → List ℕ → List ℕ → Answer Counts
+judge_answer image area headers = answer_of (verdict image (length area) (length headers)) (counts_of image)

@@ -2,9 +2,8 @@
 
 #![tactic(auto)]
 
-ghost use Rattle.std.specs.Prelude.{◌≡◌, ◌&&◌, ◌≤◌, leb, length};
+ghost use Rattle.std.specs.Prelude.{◌≡◌, ◌&&◌, ◌≤◌, leb, length, MatchResult};
 ghost use Rattle.image.specs.Stores.{zeros};
-ghost use Rattle.answer.specs.declared.outcome.Outcome.TheVariants.{Passed};
 ghost use Rattle.answer.specs.Outcome.{◌then◌};
 ghost use Rattle.home.specs.Home.{blocks};
 ghost use Rattle.volume.specs.Volume.{fmax, volume_of, places_of};
@@ -16,8 +15,7 @@ ghost use Rattle.covers.specs.Covered.{covered, twice, bad_map};
 ghost use Rattle.bad_home.specs.Homes.{bad_home};
 ghost use Rattle.verdict.specs.Verdict.{verdict, afterwards, header_marks, block_marks, counts_of, judge_answer};
 
-use answer::outcome::Outcome;
-use answer::refusal::Refusal;
+use answer::refusal::{Answer, Refusal};
 use bad_home::bad_home;
 use covers::{bad_map, cover, twice};
 use files::files;
@@ -27,6 +25,8 @@ use map_bits::{count_first_set, count_set};
 use marks::count_marked;
 use open_volume::open;
 use volume::{Places, Volume, map_blocks};
+
+mod values;
 
 // The verdict's four counts.
 #[derive(Clone, Copy)]
@@ -41,38 +41,16 @@ pub struct Counts {
     pub headers: u32,
 }
 
-// The answer of the verdict.
-#[derive(Clone, Copy)]
-pub enum JudgeAnswer {
-    Done(Counts),
-    Refused(Refusal),
-}
-
-// What calls go on from once a volume is judged: the outcome, and where that is passed the volume.
-#[derive(Clone, Copy)]
-pub struct JudgedVolume {
-    pub outcome: Outcome,
-    pub volume: Volume,
-}
-
 // TWICE, BADHOME and MAP, once FILES and LINKS are passed; and the block marks.
-fn judge_blocks(image: &[u8], v: Volume, places: &Places, area: &mut [u8]) -> Outcome
-    requires { Recorded image.now v places.now × (files image.now ≡ Passed) × (links image.now ≡ Passed) × (blocks image.now ≤ length area.old) }
+fn judge_blocks(image: &[u8], v: Volume, places: &Places, area: &mut [u8]) -> Answer<()>
+    requires { Recorded image.now v places.now × (files image.now ≡ Ok tt) × (links image.now ≡ Ok tt) × (blocks image.now ≤ length area.old) }
     ensures { (result ≡ (twice image.now then bad_home image.now then bad_map image.now))
         × (area.new ≡ tallied (covered image.now) 0 (blocks image.now) area.old) }
 {
     cover(image, v, places, area);
-    let once = twice(image, v, area);
-    match once {
-        Outcome::Passed => {
-            let passed = bad_home(image, v, places, area);
-            match passed {
-                Outcome::Passed => bad_map(image, v, area),
-                Outcome::Refused(r) => Outcome::Refused(r),
-            }
-        }
-        Outcome::Refused(r) => Outcome::Refused(r),
-    }
+    twice(image, v, area)?;
+    bad_home(image, v, places, area)?;
+    bad_map(image, v, area)
 }
 
 // The five rules, in their order; and the marks.
@@ -82,34 +60,22 @@ fn judge_opened(
     places: &Places,
     area: &mut [u8],
     headers: &mut [u8],
-) -> Outcome
+) -> Answer<()>
     requires { Recorded image.now v places.now × (blocks image.now ≤ length area.old) × (fmax image.now ≤ length headers.old) }
     ensures { (result ≡ (files image.now then links image.now then twice image.now then bad_home image.now then bad_map image.now))
         × (area.new ≡ afterwards (files image.now then links image.now) area.old (tallied (covered image.now) 0 (blocks image.now) area.old))
         × (headers.new ≡ afterwards (files image.now) headers.old (tallied (linked image.now) 1 (fmax image.now) headers.old)) }
 {
-    let f = files(image, v, places);
-    let numbered = f.outcome;
-    match numbered {
-        Outcome::Passed => {
-            let chained = links(image, v, places, f.single, headers);
-            match chained {
-                Outcome::Passed => judge_blocks(image, v, places, area),
-                Outcome::Refused(r) => Outcome::Refused(r),
-            }
-        }
-        Outcome::Refused(r) => Outcome::Refused(r),
-    }
+    let single = files(image, v, places)?;
+    links(image, v, places, single, headers)?;
+    judge_blocks(image, v, places, area)
 }
 
 // Whether areas of these lengths have room for the block marks and the header marks of a volume.
 fn is_roomy(v: Volume, area: usize, headers: usize) -> bool
     ensures { result ≡ (leb v.blocks area && leb v.fmax headers) }
 {
-    if area < (v.blocks as usize) {
-        return false;
-    }
-    (v.fmax as usize) <= headers
+    (v.blocks as usize) <= area && (v.fmax as usize) <= headers
 }
 
 // Opens a volume and judges it. The places of the volume record are left in the array lent for them.
@@ -118,34 +84,20 @@ pub fn judge_volume(
     places: &mut Places,
     area: &mut [u8],
     headers: &mut [u8],
-) -> JudgedVolume
+) -> Answer<Volume>
     requires { places.old ≡ zeros 256 }
-    ensures { (result.outcome ≡ verdict image.now (length area.old) (length headers.old))
-        × (verdict image.now (length area.old) (length headers.old) ≡ Passed → result.volume ≡ volume_of image.now)
-        × (area.new ≡ block_marks image.now area.old headers.old)
-        × (headers.new ≡ header_marks image.now area.old headers.old)
-        × (verdict image.now (length area.old) (length headers.old) ≡ Passed → places.new ≡ places_of image.now) }
+    ensures judged { MatchResult result
+        (λ v. (verdict image.now (length area.old) (length headers.old) ≡ Ok tt) × (v ≡ volume_of image.now) × (places.new ≡ places_of image.now))
+        (λ r. verdict image.now (length area.old) (length headers.old) ≡ Err r) }
+    ensures block_marks { area.new ≡ block_marks image.now area.old headers.old }
+    ensures header_marks { headers.new ≡ header_marks image.now area.old headers.old }
 {
-    let o = open(image, places);
-    let opened = o.outcome;
-    let v = o.volume;
-    match opened {
-        Outcome::Passed => {
-            if is_roomy(v, area.len(), headers.len()) {
-                let outcome = judge_opened(image, v, places, area, headers);
-                JudgedVolume { outcome, volume: v }
-            } else {
-                JudgedVolume {
-                    outcome: Outcome::Refused(Refusal::Work),
-                    volume: v,
-                }
-            }
-        }
-        Outcome::Refused(r) => JudgedVolume {
-            outcome: Outcome::Refused(r),
-            volume: v,
-        },
+    let v = open(image, places)?;
+    if !is_roomy(v, area.len(), headers.len()) {
+        return Err(Refusal::Work);
     }
+    judge_opened(image, v, places, area, headers)?;
+    Ok(v)
 }
 
 // The four counts of a volume whose blocks are marked.
@@ -165,16 +117,12 @@ fn count(image: &[u8], v: Volume, area: &[u8]) -> Counts
 }
 
 // The verdict.
-pub fn judge(image: &[u8], area: &mut [u8], headers: &mut [u8]) -> JudgeAnswer
+pub fn judge(image: &[u8], area: &mut [u8], headers: &mut [u8]) -> Answer<Counts>
     ensures { (result ≡ judge_answer image.now area.old headers.old)
         × (area.new ≡ block_marks image.now area.old headers.old)
         × (headers.new ≡ header_marks image.now area.old headers.old) }
 {
     let mut places = [0u32; 256];
-    let j = judge_volume(image, &mut places, area, headers);
-    let result = j.outcome;
-    match result {
-        Outcome::Passed => JudgeAnswer::Done(count(image, j.volume, area)),
-        Outcome::Refused(r) => JudgeAnswer::Refused(r),
-    }
+    let v = judge_volume(image, &mut places, area, headers)?;
+    Ok(count(image, v, area))
 }

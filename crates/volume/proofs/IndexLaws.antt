@@ -1,4 +1,6 @@
 -- Laws of the index file's headers: the blocks that they map, how one leads on to the next, and where they lie.
+use Rattle.answer.specs.declared.types.Lbn.{Lbn}
+use Rattle.std.specs.Prelude.{Ok, Err, Result}
 use mathlib.Core.Path.{◌≡◌, refl, sym, ap, subst, ◌∙◌}
 use mathlib.Core.Bool.{Bool, true, false, cond, ◌&&◌, and-eq-true_iff}
 use mathlib.Core.List.{List, [], ◌∷◌, ◌++◌, append-nil, append_assoc}
@@ -17,8 +19,6 @@ use Rattle.image.specs.Stores.{zeros}
 use Rattle.image.proofs.BlockLaws.{block-length, block-bytes}
 use Rattle.header.specs.Fields.{h_fseq, map_area, segment, m_efnu, m_efsq, m_use}
 use Rattle.pointers.specs.Pointers.{pointer_count, runs, pointers_at, pointers, Fits, blocks_of, place_in}
-use Rattle.pointers.specs.declared.Place.{Place}
-use Rattle.pointers.specs.declared.Place.TheVariants.{At, Past}
 use Rattle.whole.specs.Whole.{fault}
 use Rattle.pointers.proofs.PointerLaws.{place_at, place-past, runs_none, runs-length}
 use Rattle.whole.proofs.WholeLaws.{whole-fits, whole-inside}
@@ -28,17 +28,17 @@ use Rattle.pointers.specs.Pointers.{flat}
 
 -- A place in two lists of LBNs, one after the other, by where it lies in the first.
 module _ (a b : List ℕ) (i : ℕ) where
-  abbrev pub Found : Place → Type 0
-  Found (At l) = (i < length a) × (l.0 ≡ get_or a i 0) × (place_in (a ++ b) i ≡ At l)
-  Found (Past k) = (length a ≤ i) × (place_in (a ++ b) i ≡ place_in b k)
+  abbrev pub Found : Result Lbn ℕ → Type 0
+  Found (Ok l) = (i < length a) × (l.0 ≡ get_or a i 0) × (place_in (a ++ b) i ≡ Ok l)
+  Found (Err k) = (length a ≤ i) × (place_in (a ++ b) i ≡ place_in b k)
 
-  pub found : (p : Place) → place_in a i ≡ p → Found p
+  pub found : (p : Result Lbn ℕ) → place_in a i ≡ p → Found p
   found p e = subst Found e (go (dec_lt i (length a)))
     where
       go : Dec (i < length a) → Found (place_in a i)
       go (yes l) =
           rw (place_at a i l)
-          (l, refl, place_at (a ++ b) i (omega (arith, length-append a b)) ∙ ap (λ (x : ℕ). At (record { 0 = x })) (get_or-append a b 0 i l))
+          (l, refl, place_at (a ++ b) i (omega (arith, length-append a b)) ∙ ap (λ (x : ℕ). Ok (record { 0 = x })) (get_or-append a b 0 i l))
       go (no l) = rw (place-past a i (omega arith)) (omega arith, later (dec_lt (i - length a) (length b)))
         where
           whole : length a + (i - length a) ≡ i
@@ -47,11 +47,11 @@ module _ (a b : List ℕ) (i : ℕ) where
           later : Dec (i - length a < length b) → place_in (a ++ b) i ≡ place_in b (i - length a)
           later (yes s) =
               place_at (a ++ b) i (omega (arith, length-append a b))
-              ∙ ap (λ (x : ℕ). At (record { 0 = x })) (ap (λ (k : ℕ). get_or (a ++ b) k 0) (sym whole) ∙ get_or-append-add a b (i - length a) 0)
+              ∙ ap (λ (x : ℕ). Ok (record { 0 = x })) (ap (λ (k : ℕ). get_or (a ++ b) k 0) (sym whole) ∙ get_or-append-add a b (i - length a) 0)
               ∙ sym (place_at b (i - length a) s)
           later (no s) =
               place-past (a ++ b) i (omega (arith, length-append a b))
-              ∙ ap Past (omega (arith, length-append a b))
+              ∙ ap Err (omega (arith, length-append a b))
               ∙ sym (place-past b (i - length a) (omega arith))
 
 -- How many blocks a header can cover.

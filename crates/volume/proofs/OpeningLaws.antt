@@ -1,4 +1,5 @@
 -- Laws of the tests of opening: what each gives where it is passed, and what opening answers at the first that is not.
+use Rattle.std.specs.Prelude.{Ok, Err}
 use mathlib.Core.Path.{◌≡◌, refl, sym, ap, ◌∙◌}
 use mathlib.Core.Logic.{◌⊎◌, inl, inr}
 use mathlib.Core.Bool.{Bool, true, false, ◌&&◌, ◌||◌, false≢true, and-eq-true_iff}
@@ -14,7 +15,6 @@ use Rattle.lists.proofs.BelowLaws.{below_at, below_all}
 use Rattle.image.specs.Blocks.{block}
 use Rattle.image.proofs.BlockLaws.{block-length}
 use Rattle.answer.specs.declared.refusal.Refusal.TheVariants as refusal
-use Rattle.answer.specs.declared.outcome.Outcome.TheVariants.{Passed, Refused}
 use Rattle.answer.specs.Outcome.{unless, ◌then◌}
 use Rattle.pointers.specs.Pointers.{pointer_lbn, pointer_count, runs, pointers_at, pointers, blocks_of}
 use Rattle.pointers.proofs.PointerLaws.{runs_none, runs-length, runs-at}
@@ -59,31 +59,31 @@ module _ (image : List ℕ) where
 
 -- What opening answers, by the first test that is not met.
 module _ (image : List ℕ) where
-  pub open-size : sized image ≡ false → open_volume image ≡ Refused refusal.Size
+  pub open-size : sized image ≡ false → open_volume image ≡ Err refusal.Size
   unfolding open_volume unless ◌then◌
   open-size s = rw s
 
   module _ (s : sized image ≡ true) where
-    pub open-home : homed image ≡ false → open_volume image ≡ Refused refusal.Home
+    pub open-home : homed image ≡ false → open_volume image ≡ Err refusal.Home
     unfolding open_volume unless ◌then◌
     open-home h = rw (s, h)
 
     module _ (h : homed image ≡ true) where
-      pub open-geometry : geometry image ≡ false → open_volume image ≡ Refused refusal.Geometry
+      pub open-geometry : geometry image ≡ false → open_volume image ≡ Err refusal.Geometry
       unfolding open_volume unless ◌then◌
       open-geometry g = rw (s, h, g)
 
       module _ (g : geometry image ≡ true) where
-        pub open-index : indexed image ≡ false → open_volume image ≡ Refused refusal.Index
+        pub open-index : indexed image ≡ false → open_volume image ≡ Err refusal.Index
         unfolding open_volume unless ◌then◌
         open-index i = rw (s, h, g, i)
 
         module _ (i : indexed image ≡ true) where
-          pub open-storage : stored image ≡ false → open_volume image ≡ Refused refusal.Storage
+          pub open-storage : stored image ≡ false → open_volume image ≡ Err refusal.Storage
           unfolding open_volume unless ◌then◌
           open-storage t = rw (s, h, g, i, t)
 
-          pub open-passed : stored image ≡ true → open_volume image ≡ Passed
+          pub open-passed : stored image ≡ true → open_volume image ≡ Ok tt
           unfolding open_volume unless ◌then◌
           open-passed t = rw (s, h, g, i, t)
 

@@ -1,5 +1,7 @@
 -- What an image that opens is known to have.
-use mathlib.Core.Path.{◌≡◌, refl, sym, ap, subst, ◌∙◌}
+use Rattle.std.specs.Prelude.{Ok, Some, None}
+use Rattle.std.specs.Result.{result_ok}
+use mathlib.Core.Path.{◌≡◌, refl, sym, ap, ◌∙◌}
 use mathlib.Core.Bool.{Bool, true, ◌&&◌, and-eq-true_iff}
 use mathlib.Core.List.{List, ◌++◌}
 use Prim.Native.Nat.{ℕ, zero, suc, ◌+◌, ◌*◌, ◌-◌, ◌≤◌, ◌<◌}
@@ -16,23 +18,18 @@ use Rattle.lists.proofs.BelowLaws.{below_at, below_all}
 use Rattle.image.proofs.WordLaws.{word_below}
 use Rattle.image.proofs.BlockLaws.{region-length, block-length, block-bytes}
 use Rattle.answer.specs.declared.refusal.Refusal.TheVariants as refusal
-use Rattle.answer.specs.declared.outcome.Outcome.TheVariants.{Passed}
 use Rattle.answer.proofs.OutcomeLaws.{passed-last, passed_first}
 use Rattle.header.specs.Fields.{h_fseq, segment, m_efnu}
 use Rattle.pointers.specs.Pointers.{Fits, blocks_of, place_in}
-use Rattle.pointers.specs.declared.Place.{Place}
-use Rattle.pointers.specs.declared.Place.TheVariants as place
 use Rattle.whole.specs.Whole.{fault}
 use Rattle.pointers.proofs.PointerLaws.{place_at, place-past}
 use Rattle.whole.proofs.WholeLaws.{whole-fits, whole-inside}
 use Rattle.home.specs.Home.{h_fmax, blocks, positions, home_index, home}
 use Rattle.volume.specs.Volume.{ibsz, iblb, fmax, index_header, places, index, index_ends, places_of, slot, slots, has_slot, slot_of, header, index_map, map_blocks, base, storage_map, volume_of}
 use Rattle.volume.specs.declared.Volume.{Volume}
-use Rattle.volume.specs.declared.Slot.{Slot}
-use Rattle.volume.specs.declared.Slot.TheVariants.{At, Missing}
 use Rattle.volume.specs.Opening.{sized, homed, geometry, heads, alone, index_lbn, index_at, index_mapped, indexed, storage_mapped, stored, open_volume, HasIndexMap, FirstFit, Recorded, Laid}
 use Rattle.volume.specs.Volume.{map_blocks}
-use Rattle.volume.proofs.IndexLaws.{AllLie, lies-fits, mapped-inside, places-lie, places-least, places-most, further, index-split, index-most, padded-take, padded-length}
+use Rattle.volume.proofs.IndexLaws.{AllLie, lies-fits, mapped-inside, places-lie, places-most, further, index-split, index-most, padded-take, padded-length}
 use Rattle.volume.proofs.OpeningLaws.{open-passed, three, sized-is, geometry-is, home-inside, index_lbn-boot, index_lbn-home, index_lbn-row, storage-long, storage-row}
 
 -- A header that heads a file: whole, of its number and sequence, segment 0.
@@ -160,7 +157,7 @@ stored-gives image t =
     let r = three (alone n 2 (header image 2)) (storage_mapped (map_blocks n) (header image 2)) (eqb control (map_blocks n)) t in
     (alone-gives n 2 (header image 2) r.0, r.1, eqb-true control (map_blocks n) r.2)
 
-pub opens : (image : List ℕ) → open_volume image ≡ Passed → Opens image
+pub opens : (image : List ℕ) → open_volume image ≡ Ok tt → Opens image
 unfolding open_volume homed
 opens image e =
     let s = passed_first (sized image) refusal.Size _ e in
@@ -188,7 +185,7 @@ opens image e =
     }
 
 -- An image that has all of that opens.
-pub opens-all : (image : List ℕ) → Opens image → open_volume image ≡ Passed
+pub opens-all : (image : List ℕ) → Opens image → open_volume image ≡ Ok tt
 unfolding sized homed geometry indexed stored
 opens-all image o =
     let n = blocks image in
@@ -276,7 +273,7 @@ module _ {image : List ℕ} (o : Opens image) where
   unfolding header
   header-length n l h = block-length image (slot image n) (omega (arith, o.size, slot-below n l h))
 
-  -- At least sixteen numbers have a slot.
+  -- Some least sixteen numbers have a slot.
   pub slots-least : 16 ≤ slots image
   unfolding slots
   slots-least = omega (arith, index-file.long)
@@ -352,13 +349,21 @@ says_all image v s e f = λ i. record {
   segments = f i;
 }
 
+-- The first blocks of the index file and the first sixteen slots lie on the volume.
+pub open_room : (image : List ℕ) (v : Volume) → open_volume image ≡ Ok tt → v ≡ volume_of image → v.iblb.0 + v.ibsz + 16 ≤ 1044480
+open_room image v opened e =
+    let s = says image v e in
+    let o = opens image opened in
+    omega (arith, s.iblb, s.ibsz, o.fits, o.most)
+
+-- The index file has 256 headers at most.
+pub segments_few : (image : List ℕ) (v : Volume) → v ≡ volume_of image → v.segments ≤ 256
+segments_few image v e = omega (arith, says-segments image v e, places-most image)
+
 -- Where the index file's headers lie, by the volume record.
 module _ (image : List ℕ) (v : Volume) (at : List ℕ) (r : Recorded image v at) where
-  pub segments-least : 1 ≤ v.segments
-  segments-least = omega (arith, says-segments image v r.1, places-least image)
-
   pub segments-most : v.segments ≤ 256
-  segments-most = omega (arith, says-segments image v r.1, places-most image)
+  segments-most = segments_few image v r.1
 
   pub places-long : length at ≡ 256
   unfolding places_of
@@ -376,30 +381,21 @@ module _ (image : List ℕ) (v : Volume) (at : List ℕ) (r : Recorded image v a
   places-fit j l = let here = place_read j l in rw here.1 (headers-fit (opens image r.0) j here.0)
 
 -- The slot of a number by its place in the index file.
-abbrev pub slot_in : Place → Slot
-slot_in (place.At l) = At l
-slot_in (place.Past i) = Missing
-
-pub slot-place : (image : List ℕ) → Opens image → (n i : ℕ) → i ≡ 1 + ibsz image + n → slot_in (place_in (index image) i) ≡ slot_of image n
+pub slot-place : (image : List ℕ) → Opens image → (n i : ℕ) → i ≡ 1 + ibsz image + n → result_ok (place_in (index image) i) ≡ slot_of image n
 unfolding slot_of has_slot slots slot
 slot-place image o n i e = go (dec_lt i (length (index image)))
   where
-    go : Dec (i < length (index image)) → slot_in (place_in (index image) i) ≡ slot_of image n
+    go : Dec (i < length (index image)) → result_ok (place_in (index image) i) ≡ slot_of image n
     go (yes l) =
         rw (place_at (index image) i l, le-leb n (length (index image) - (2 + ibsz image)) (omega arith), e)
     go (no l) =
         rw (place-past (index image) i (omega arith), lt-leb n (length (index image) - (2 + ibsz image)) (omega (arith, (index-file o).long)))
 
 -- 256 headers can cover 8,323,072 blocks, so no higher number has a slot.
-pub slot-none : (image : List ℕ) → Bytes image → (n : ℕ) → 8323072 < n → slot_of image n ≡ Missing
+pub slot-none : (image : List ℕ) → Bytes image → (n : ℕ) → 8323072 < n → slot_of image n ≡ None
 unfolding slot_of has_slot slots
 slot-none image bytes n l = rw (lt-leb n (slots image) (omega (arith, index-most image bytes)))
 
--- What is known of a number that has a slot by the slot that was found for it.
-abbrev pub IsSlot : List ℕ → ℕ → Slot → Type 0
-IsSlot image n (At lbn) = lbn.0 ≡ slot image n
-IsSlot image n Missing = ⊥
-
-pub slot_is : (image : List ℕ) (n : ℕ) → has_slot image n ≡ true → (s : Slot) → slot_of image n ≡ s → IsSlot image n s
+pub slot_some : (image : List ℕ) (n : ℕ) → has_slot image n ≡ true → slot_of image n ≡ Some (record { 0 = slot image n })
 unfolding slot_of
-slot_is image n has s e = subst (IsSlot image n) e (rw has refl)
+slot_some image n has = rw has

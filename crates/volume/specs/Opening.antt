@@ -1,12 +1,10 @@
 -- Opening a volume: SIZE, HOME, GEOMETRY, INDEX, STORAGE, in this order.
-use Rattle.std.specs.Prelude.{◌≡◌, Bool, true, cond, not, ◌&&◌, ◌||◌, List, ℕ, ◌+◌, ◌*◌, ◌-◌, ◌≤◌, ◌<◌, eqb, leb, ltb, length, get_or}
+use Rattle.std.specs.Prelude.{◌≡◌, Bool, true, false, cond, Option, MatchOption, ◌&&◌, ◌||◌, List, ℕ, ◌+◌, ◌*◌, ◌-◌, ◌≤◌, ◌<◌, eqb, leb, ltb, length, get_or, Ok}
 use Rattle.lists.specs.First.{below}
 use Rattle.image.specs.Words.{byte_at}
 use Rattle.image.specs.Blocks.{block}
 use Rattle.answer.specs.declared.refusal.Refusal.TheVariants as refusal
-use Rattle.answer.specs.declared.outcome.Outcome.{Outcome}
-use Rattle.answer.specs.declared.outcome.Outcome.TheVariants as outcome
-use Rattle.answer.specs.Outcome.{unless, ◌then◌}
+use Rattle.answer.specs.Outcome.{unless, ◌then◌, Outcome}
 use Rattle.header.specs.Fields.{h_fseq, segment, m_efnu}
 use Rattle.pointers.specs.Pointers.{pointer_count, pointers_at, pointers, Fits, blocks_of}
 use Rattle.whole.specs.Whole.{fault}
@@ -82,18 +80,20 @@ HasIndexMap image = (fmax image ≤ 4096 * ibsz image) × (512 * (iblb image + i
 abbrev pub FirstFit : List ℕ → List ℕ → ℕ → Type 0
 FirstFit image at k = (j : ℕ) → j < k → Fits (block image (get_or at j 0))
 
--- What a walk along the index file's headers comes to: how many they are and where they lie, and 0 where a link is bad.
-abbrev pub Walked : List ℕ → ℕ → List ℕ → Type 0
-Walked image count at =
-    (eqb count 0 ≡ not (index_ends image)) × (index_ends image ≡ true → (count ≡ length (places image)) × (at ≡ padded (places image)))
+-- What a walk along the index file's headers comes to: how many they are and where they lie, and nothing where a link is bad.
+abbrev pub Walked : List ℕ → Option ℕ → List ℕ → Type 0
+Walked image found at =
+    MatchOption found
+    (index_ends image ≡ false)
+    (λ count. (index_ends image ≡ true) × (count ≡ length (places image)) × (at ≡ padded (places image)))
 
 -- The image opens, and v is what calls on it need to know, but for the places of the index file's headers.
 abbrev pub Open : List ℕ → Volume → Type 0
-Open image v = (open_volume image ≡ outcome.Passed) × (v ≡ volume_of image)
+Open image v = (open_volume image ≡ Ok tt) × (v ≡ volume_of image)
 
 -- The image opens, and v and at are the two parts of its volume record.
 abbrev pub Recorded : List ℕ → Volume → List ℕ → Type 0
-Recorded image v at = (open_volume image ≡ outcome.Passed) × (v ≡ volume_of image) × (at ≡ places_of image)
+Recorded image v at = (open_volume image ≡ Ok tt) × (v ≡ volume_of image) × (at ≡ places_of image)
 
 -- What v says of the image, but for the storage map.
 pub record Laid (image : List ℕ) (v : Volume) : Type 0 where

@@ -1,6 +1,7 @@
 -- What an image says of its volume: which numbers are in use, the index file, the slots of file headers, and the storage map.
 -- "Slot" and "in use" are 01's words; "place" and "segment" of an index file's header are 02's.
-use Rattle.std.specs.Prelude.{Bool, cond, ◌&&◌, List, [], ◌∷◌, ◌++◌, ℕ, zero, suc, ◌+◌, ◌-◌, ◌/◌, ◌*◌, eqb, leb, length, get_or}
+use Rattle.answer.specs.declared.types.Lbn.{Lbn}
+use Rattle.std.specs.Prelude.{Bool, cond, ◌&&◌, List, [], ◌∷◌, ◌++◌, ℕ, zero, suc, ◌+◌, ◌-◌, ◌/◌, ◌*◌, eqb, leb, length, get_or, Some, None, Option}
 use Rattle.image.specs.Blocks.{region, block}
 use Rattle.image.specs.Bits.{bit_at}
 use Rattle.image.specs.Stores.{zeros}
@@ -9,8 +10,6 @@ use Rattle.pointers.specs.Pointers.{blocks_of, flat}
 use Rattle.whole.specs.Whole.{fault}
 use Rattle.home.specs.Home.{h_ibsz, h_iblb, h_fmax, blocks, home}
 use Rattle.volume.specs.declared.Volume.{Volume}
-use Rattle.volume.specs.declared.Slot.{Slot}
-use Rattle.volume.specs.declared.Slot.TheVariants.{At, Missing}
 
 -- 01, Home block: H.IBSZ, H.IBLB and H.FMAX of the home. 01, Geometry: "m = H.IBSZ".
 unfoldable pub ibsz : List ℕ → ℕ
@@ -91,8 +90,8 @@ unfoldable pub has_slot : List ℕ → ℕ → Bool
 has_slot image n = leb n (slots image)
 
 -- The slot of n, if it has one.
-unfoldable pub slot_of : List ℕ → ℕ → Slot
-slot_of image n = cond (has_slot image n) (At (record { 0 = slot image n })) Missing
+unfoldable pub slot_of : List ℕ → ℕ → Option Lbn
+slot_of image n = cond (has_slot image n) (Some (record { 0 = slot image n })) None
 
 -- The header in the slot of n.
 unfoldable pub header : List ℕ → ℕ → List ℕ

@@ -15,24 +15,18 @@ use answer::types::{FileNumber, Lbn, Vbn};
 use header::fields::{h_fseq, m_efsq, segment};
 use image::bits::bit_at;
 use image::blocks::{block, region};
-use pointers::{Place, block_count, place_of};
+use pointers::{block_count, place_of};
 use whole::fault;
 
 // Whether `next` is the header that header h links to by M.EFNU, which is n: its sequence, a segment number one higher, and whole.
+#[tactic(auto, unfolding(crate::specs::Volume::follows))]
 pub fn is_next(h: &[u8], next: &[u8], blocks: u32, n: FileNumber) -> bool
     requires { (length next.now ≡ 512) × (n.0 ≡ m_efnu h.now) }
     ensures { result ≡ follows blocks h.now next.now }
 {
-    if h_fseq(next) != m_efsq(h) {
-        return false;
-    }
-    if (segment(next) as u16) != (segment(h) as u16) + 1 {
-        return false;
-    }
-    if fault(next, blocks, n) != 0 {
-        return false;
-    }
-    true
+    h_fseq(next) == m_efsq(h)
+        && u16::from(segment(next)) == u16::from(segment(h)) + 1
+        && fault(next, blocks, n) == 0
 }
 
 // The VBN of the index file that is the slot of a file number.
@@ -43,41 +37,30 @@ pub fn slot_vbn(m: u32, n: FileNumber) -> Vbn
     Vbn(2 + m + n.0)
 }
 
-// Where a VBN lies in the blocks of the first k of the headers at these LBNs.
-pub fn place_among(image: &[u8], at: &Places, k: usize, vbn: Vbn) -> Place
+// Where a VBN lies in the blocks of the first k of the headers at these LBNs; or how far it lies past the last.
+pub fn place_among(image: &[u8], at: &Places, k: usize, vbn: Vbn) -> Result<Lbn, u32>
     requires { (length at.now ≡ 256) × (k ≤ 256) × FirstFit image.now at.now k × (1 ≤ vbn.0) }
     ensures { result ≡ place_in (flat (block image.now) (take k at.now)) (vbn.0 - 1) }
 {
     let mut left = vbn.0 - 1;
-    let mut j: usize = 0;
-    while j < k {
-        let lbn = Lbn(at[j]);
-        let place = place_of(block(image, lbn), left);
-        match place {
-            Place::At(l) => {
-                return Place::At(l);
-            }
-            Place::Past(more) => {
-                left = more;
-            }
+    for lbn in &at[..k] {
+        match place_of(block(image, Lbn(*lbn)), left) {
+            Ok(found) => return Ok(found),
+            Err(more) => left = more,
         }
-        j += 1;
     }
-    Place::Past(left)
+    Err(left)
 }
 
 // How many blocks the index file has.
+#[tactic(auto, using(crate::proofs::VolumeLaws::segments_few))]
 pub fn index_blocks(image: &[u8], v: Volume, places: &Places) -> u32
     requires { Recorded image.now v places.now }
     ensures { result ≡ length (index image.now) }
 {
-    let count = v.segments;
     let mut sum: u32 = 0;
-    let mut k: usize = 0;
-    while k < count {
-        let lbn = Lbn(places[k]);
-        sum += block_count(block(image, lbn));
-        k += 1;
+    for lbn in &places[..v.segments] {
+        sum += block_count(block(image, Lbn(*lbn)));
     }
     sum
 }
@@ -105,35 +88,25 @@ pub struct Volume {
     pub segments: usize,
 }
 
-// Where the header of a file number lies.
-#[derive(Clone, Copy)]
-pub enum Slot {
-    At(Lbn),
-    Missing,
-}
-
 // How many blocks of bits the storage map of a volume of so many blocks has.
+#[tactic(auto, unfolding(crate::specs::Volume::map_blocks))]
 pub fn map_blocks(blocks: u32) -> u32
     ensures { (result ≡ map_blocks blocks) × (result ≤ 1048576) }
 {
-    (((blocks as u64) + 4095) / 4096) as u32
+    blocks.div_ceil(4096)
 }
 
 // Whether a file number is in use, by H.FMAX, H.IBLB and H.IBSZ alone.
+#[tactic(auto, unfolding(crate::specs::Volume::in_use, crate::specs::Volume::index_map))]
 pub fn is_marked(image: &[u8], most: u32, from: Lbn, m: u32, n: FileNumber) -> bool
     requires { (most ≡ fmax image.now) × (from.0 ≡ iblb image.now) × (m ≡ ibsz image.now) × HasIndexMap image.now }
     ensures { result ≡ in_use image.now n.0 }
 {
-    let number = n.0;
-    if number < 1 {
-        return false;
-    }
-    let bit = number - 1;
-    if most <= bit {
+    if n.0 < 1 || most < n.0 {
         return false;
     }
     let map = region(image, from, m);
-    bit_at(map, bit as usize) == 1
+    bit_at(map, (n.0 - 1) as usize) == 1
 }
 
 // Whether a file number is in use.
@@ -145,29 +118,22 @@ pub fn is_in_use(image: &[u8], v: Volume, n: FileNumber) -> bool
 }
 
 // The slot of a file number; none past the blocks of the index file, which are at most 8,323,072: 256 headers of 32,512.
-pub fn slot_of(image: &[u8], v: Volume, places: &Places, n: FileNumber) -> Slot
+#[tactic(auto, using(crate::proofs::VolumeLaws::open_room))]
+pub fn slot_of(image: &[u8], v: Volume, places: &Places, n: FileNumber) -> Option<Lbn>
     requires { Recorded image.now v places.now }
     ensures { result ≡ slot_of image.now n.0 }
 {
-    let number = n.0;
-    if 8323072 < number {
-        return Slot::Missing;
+    if 8323072 < n.0 {
+        return None;
     }
-    let place = place_among(image, places, v.segments, slot_vbn(v.ibsz, n));
-    match place {
-        Place::At(l) => Slot::At(l),
-        Place::Past(_) => Slot::Missing,
-    }
+    place_among(image, places, v.segments, slot_vbn(v.ibsz, n)).ok()
 }
 
 // The LBN of the slot of a file number that has one.
+#[tactic(auto, using(crate::proofs::VolumeLaws::slot_some))]
 pub fn slot_at(image: &[u8], v: Volume, places: &Places, n: FileNumber) -> Lbn
     requires { Recorded image.now v places.now × (has_slot image.now n.0 ≡ true) }
     ensures { result.0 ≡ slot image.now n.0 }
 {
-    let place = slot_of(image, v, places, n);
-    match place {
-        Slot::At(lbn) => lbn,
-        Slot::Missing => Lbn(0),
-    }
+    slot_of(image, v, places, n).unwrap()
 }

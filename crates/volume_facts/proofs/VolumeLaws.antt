@@ -1,29 +1,27 @@
 -- Laws of where the parts of a volume lie, and of its label.
-use mathlib.Core.Path.{◌≡◌, refl}
+use Rattle.std.specs.Prelude.{Ok}
+use mathlib.Core.Path.{◌≡◌, refl, ap, ◌∙◌}
 use mathlib.Core.List.{List}
 use Prim.Native.Nat.{ℕ, ◌+◌, ◌-◌}
 use native.Mathlib.Omega.{arith}
 use lib.ListN.{length}
 use Rattle.image.specs.Blocks.{block}
 use Rattle.image.proofs.BlockLaws.{block-length}
-use Rattle.answer.specs.declared.refusal.Refusal.{Refusal}
-use Rattle.answer.specs.declared.outcome.Outcome.TheVariants.{Passed, Refused}
 use Rattle.home.specs.Home.{h_vlev, blocks, home}
-use Rattle.volume.specs.Volume.{ibsz, iblb, fmax, places, index, slots, base, map_blocks}
+use Rattle.volume.specs.declared.Volume.{Volume}
+use Rattle.volume.specs.Volume.{ibsz, iblb, fmax, places, index, slots, base, map_blocks, volume_of}
 use Rattle.volume.specs.Opening.{open_volume}
-use Rattle.volume.proofs.VolumeLaws.{opens, home_below}
+use Rattle.volume.proofs.VolumeLaws.{opens, home_below, says}
 use Rattle.volume_facts.specs.declared.types.Geometry.{Geometry}
-use Rattle.volume_facts.specs.declared.types.GeometryAnswer.TheVariants as geometries
-use Rattle.volume_facts.specs.declared.types.Label.{Label}
-use Rattle.volume_facts.specs.declared.types.LabelAnswer.TheVariants as labels
-use Rattle.volume_facts.specs.Volumes.{geometry_of, geometry_by, geometry_answer, label_in, label_by, label_answer}
+use Rattle.volume_facts.specs.Volumes.{geometry_of}
 
 module _ (image : List ℕ) where
-  -- The home of a volume that opens has 512 bytes.
-  pub home-long : open_volume image ≡ Passed → length (block image (home image)) ≡ 512
-  home-long e =
-      let o = opens image e in
-      block-length image (home image) (omega (arith, o.size, home_below o))
+  -- The block that the volume record has for the home is the home, of 512 bytes.
+  pub home_read : (v : Volume) (b : List ℕ) → open_volume image ≡ Ok tt → v ≡ volume_of image → b ≡ block image v.home.0 → (b ≡ block image (home image)) × (length b ≡ 512)
+  home_read v b p e f =
+      let o = opens image p in
+      let is : b ≡ block image (home image) = f ∙ ap (block image) (says image v e).home in
+      (is, rw is (block-length image (home image) (omega (arith, o.size, home_below o))))
 
   pub slot-count : slots image ≡ length (index image) - (2 + ibsz image)
   unfolding slots
@@ -46,20 +44,3 @@ module _ (image : List ℕ) where
     vlev = vlev i;
     index_headers = headers i;
   }
-
-  -- What is answered, by what opening the volume came to.
-  pub geometry-refused : (r : Refusal) → open_volume image ≡ Refused r → geometries.Refused r ≡ geometry_answer image
-  unfolding geometry_answer geometry_by
-  geometry-refused r e = rw e
-
-  pub geometry-done : open_volume image ≡ Passed → (g : Geometry) → g ≡ geometry_of image → geometries.Done g ≡ geometry_answer image
-  unfolding geometry_answer geometry_by
-  geometry-done e g s = rw (e, s)
-
-  pub label-refused : (r : Refusal) → open_volume image ≡ Refused r → labels.Refused r ≡ label_answer image
-  unfolding label_answer label_by
-  label-refused r e = rw e
-
-  pub label-done : open_volume image ≡ Passed → (l : Label) → l ≡ label_in (block image (home image)) → labels.Done l ≡ label_answer image
-  unfolding label_answer label_by
-  label-done e l s = rw (e, s)

@@ -1,18 +1,14 @@
 -- What a volume says of itself: where its parts lie, and the label in its home block.
+use Rattle.answer.specs.Outcome.{Answer}
+use Rattle.answer.specs.Answers.{answer_of}
 use Rattle.std.specs.Prelude.{List, ℕ, ◌+◌, ◌*◌, length}
 use Rattle.image.specs.Words.{word_at}
 use Rattle.image.specs.Blocks.{block}
-use Rattle.answer.specs.declared.outcome.Outcome.{Outcome}
-use Rattle.answer.specs.declared.outcome.Outcome.TheVariants as outcome
 use Rattle.home.specs.Home.{h_vlev, blocks, home}
 use Rattle.volume.specs.Volume.{ibsz, iblb, fmax, places, slots, base, map_blocks}
 use Rattle.volume.specs.Opening.{open_volume}
 use Rattle.volume_facts.specs.declared.types.Geometry.{Geometry}
-use Rattle.volume_facts.specs.declared.types.GeometryAnswer.{GeometryAnswer}
-use Rattle.volume_facts.specs.declared.types.GeometryAnswer.TheVariants as geometries
 use Rattle.volume_facts.specs.declared.types.Label.{Label}
-use Rattle.volume_facts.specs.declared.types.LabelAnswer.{LabelAnswer}
-use Rattle.volume_facts.specs.declared.types.LabelAnswer.TheVariants as labels
 
 -- Where the parts of a volume lie: N; the home's LBN; H.IBSZ, H.IBLB, H.FMAX; how many numbers have a slot; the LBN of the storage map's bits, and in how
 -- many blocks they lie; H.VLEV. 01, The volume, has the sentence for each. And how many headers the index file has: 02, 9/14, "all headers in the chain
@@ -31,13 +27,9 @@ geometry_of image = record {
   index_headers = length (places image);
 }
 
-unfoldable pub geometry_by : Outcome → Geometry → GeometryAnswer
-geometry_by outcome.Passed g = geometries.Done g
-geometry_by (outcome.Refused r) g = geometries.Refused r
-
 -- Every call on a volume opens it first; 01, Answer numbers: 1 to 5.
-unfoldable pub geometry_answer : List ℕ → GeometryAnswer
-geometry_answer image = geometry_by (open_volume image) (geometry_of image)
+unfoldable pub geometry_answer : List ℕ → Answer Geometry
+geometry_answer image = answer_of (open_volume image) (geometry_of image)
 
 -- 000, 5.1.2.7: "H.VNAM 12 bytes Volume Name"; the fields before it have 14 bytes. Word k, from 0, of it.
 unfoldable pub h_vnam : List ℕ → ℕ → ℕ
@@ -74,10 +66,6 @@ label_in b = record {
   default_protection = h_dfpr b;
 }
 
-unfoldable pub label_by : Outcome → Label → LabelAnswer
-label_by outcome.Passed l = labels.Done l
-label_by (outcome.Refused r) l = labels.Refused r
-
 -- The label of a volume; 01, Answer numbers: 1 to 5.
-unfoldable pub label_answer : List ℕ → LabelAnswer
-label_answer image = label_by (open_volume image) (label_in (block image (home image)))
+unfoldable pub label_answer : List ℕ → Answer Label
+label_answer image = answer_of (open_volume image) (label_in (block image (home image)))

@@ -6,14 +6,15 @@ ghost use Rattle.std.specs.Prelude.{◌≡◌, length};
 ghost use Rattle.volume.specs.Opening.{Recorded};
 ghost use Rattle.volume_facts.specs.Volumes.{geometry_of, geometry_answer, label_in, label_answer};
 
-use crate::types::{Geometry, GeometryAnswer, Label, LabelAnswer};
-use answer::outcome::Outcome;
+use crate::types::{Geometry, Label};
+use answer::refusal::Answer;
 use image::blocks::block;
 use image::words::word_at;
 use open_volume::open;
 use volume::{Places, Volume, index_blocks, map_blocks};
 
 pub mod types;
+mod values;
 
 // Where the parts of an opened volume lie.
 fn geometry_on(image: &[u8], v: Volume, places: &Places) -> Geometry
@@ -21,43 +22,34 @@ fn geometry_on(image: &[u8], v: Volume, places: &Places) -> Geometry
     ensures { result ≡ geometry_of image.now }
 {
     let mapped = index_blocks(image, v, places);
-    let home = v.home;
-    let iblb = v.iblb;
-    let map = v.base;
-    let vlev = word_at(block(image, home), 12);
     // Boot block, home and index map come before the slots.
     let first = 2 + v.ibsz;
-    let slots = mapped - first;
-    let index_headers = v.segments as u32;
     Geometry {
         blocks: v.blocks,
-        home,
+        home: v.home,
         ibsz: v.ibsz,
-        iblb,
+        iblb: v.iblb,
         fmax: v.fmax,
-        slots,
-        map,
+        slots: mapped - first,
+        map: v.base,
         map_blocks: map_blocks(v.blocks),
-        vlev,
-        index_headers,
+        vlev: word_at(block(image, v.home), 12),
+        index_headers: v.segments as u32,
     }
 }
 
 // Where the parts of a volume lie.
-pub fn geometry(image: &[u8]) -> GeometryAnswer
+#[tactic(auto, unfolding(image::specs::Stores::zeros, crate::specs::Volumes::geometry_answer, answer::specs::Answers::answer_of))]
+pub fn geometry(image: &[u8]) -> Answer<Geometry>
     ensures { result ≡ geometry_answer image.now }
 {
     let mut places = [0u32; 256];
-    let opened = open(image, &mut places);
-    let v = opened.volume;
-    let result = opened.outcome;
-    match result {
-        Outcome::Passed => GeometryAnswer::Done(geometry_on(image, v, &places)),
-        Outcome::Refused(r) => GeometryAnswer::Refused(r),
-    }
+    let v = open(image, &mut places)?;
+    Ok(geometry_on(image, v, &places))
 }
 
 // The label in a home block.
+#[tactic(auto, unfolding(crate::specs::Volumes::label_in, crate::specs::Volumes::h_vnam, crate::specs::Volumes::h_vown, crate::specs::Volumes::h_vpro, crate::specs::Volumes::h_vcha, crate::specs::Volumes::h_dfpr))]
 fn label_in(b: &[u8]) -> Label
     requires { length b.now ≡ 512 }
     ensures { result ≡ label_in b.now }
@@ -77,15 +69,11 @@ fn label_in(b: &[u8]) -> Label
 }
 
 // The label of a volume.
-pub fn label(image: &[u8]) -> LabelAnswer
+#[tactic(auto, using(crate::proofs::VolumeLaws::home_read), unfolding(image::specs::Stores::zeros, crate::specs::Volumes::label_answer, answer::specs::Answers::answer_of))]
+pub fn label(image: &[u8]) -> Answer<Label>
     ensures { result ≡ label_answer image.now }
 {
     let mut places = [0u32; 256];
-    let opened = open(image, &mut places);
-    let v = opened.volume;
-    let result = opened.outcome;
-    match result {
-        Outcome::Passed => LabelAnswer::Done(label_in(block(image, v.home))),
-        Outcome::Refused(r) => LabelAnswer::Refused(r),
-    }
+    let v = open(image, &mut places)?;
+    Ok(label_in(block(image, v.home)))
 }

@@ -1,5 +1,4 @@
 // What a volume says of itself, as types: where its parts lie, and its label.
-use answer::refusal::Refusal;
 use answer::types::Lbn;
 
 // Where the parts of a volume lie.
@@ -27,13 +26,6 @@ pub struct Geometry {
     pub index_headers: u32,
 }
 
-// The answer of asking where the parts of a volume lie.
-#[derive(Clone, Copy)]
-pub enum GeometryAnswer {
-    Done(Geometry),
-    Refused(Refusal),
-}
-
 // The label in a volume's home block.
 #[derive(Clone, Copy)]
 pub struct Label {
@@ -52,11 +44,4 @@ pub struct Label {
     pub characteristics: u16,
     // H.DFPR.
     pub default_protection: u16,
-}
-
-// The answer of asking for a volume's label.
-#[derive(Clone, Copy)]
-pub enum LabelAnswer {
-    Done(Label),
-    Refused(Refusal),
 }

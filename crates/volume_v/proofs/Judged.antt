@@ -1,6 +1,6 @@
 -- The verdict on Volume V, computed; N and H.FMAX.
+use Rattle.std.specs.Prelude.{Ok}
 use mathlib.Core.Path.{◌≡◌, refl}
-use Rattle.answer.specs.declared.outcome.Outcome.TheVariants.{Passed}
 use Rattle.lists.specs.First.{first, below}
 use Rattle.image.specs.Words.{word_at}
 use Rattle.image.specs.Blocks.{region, block}
@@ -35,6 +35,6 @@ pub numbers : fmax volume_v ≡ 16
 unfolding first below word_at region block bit_of bit_at word_sum checksum zeros numbers_from unless ◌then◌ h_idof h_mpof h_fnum h_fseq h_flev user_flags system_flags map_area segment m_ervn m_efnu m_efsq m_ctsz m_lbsz m_use m_max pointer_lbn pointer_count run runs pointers_at pointers blocks_of ends_inside link_tests map_tests tests first_unmet fault h_ibsz h_iblb h_fmax h_sbcl h_vlev indf indf_at is_home blocks position positions home_at home_index home ibsz iblb fmax index_header follows leads_on places_from places flat index index_ends slot slots has_slot header fault_of index_map in_use is_number map_blocks base storage_map sized homed geometry heads alone index_lbn index_at index_mapped indexed storage_mapped stored open_volume links_on good_link chain chain_of every good_link_of good_chain file_blocks words join home_block index_map_block header_block end_of_file storage_map_block directory_block volume_v count gathered is_known bad_file files_place files link_of linked links_wanted bad_links links_place links covered covered_twice twice_place twice map_bits wrong_bit map_place bad_map left_out bad_home_index bad_home roomy ready verdict
 numbers = refl
 
-pub computed : verdict volume_v 100 16 ≡ Passed
+pub computed : verdict volume_v 100 16 ≡ Ok tt
 unfolding first below word_at region block bit_of bit_at word_sum checksum zeros numbers_from unless ◌then◌ h_idof h_mpof h_fnum h_fseq h_flev user_flags system_flags map_area segment m_ervn m_efnu m_efsq m_ctsz m_lbsz m_use m_max pointer_lbn pointer_count run runs pointers_at pointers blocks_of ends_inside link_tests map_tests tests first_unmet fault h_ibsz h_iblb h_fmax h_sbcl h_vlev indf indf_at is_home blocks position positions home_at home_index home ibsz iblb fmax index_header follows leads_on places_from places flat index index_ends slot slots has_slot header fault_of index_map in_use is_number map_blocks base storage_map sized homed geometry heads alone index_lbn index_at index_mapped indexed storage_mapped stored open_volume links_on good_link chain chain_of every good_link_of good_chain file_blocks words join home_block index_map_block header_block end_of_file storage_map_block directory_block volume_v count gathered is_known bad_file files_place files link_of linked links_wanted bad_links links_place links covered covered_twice twice_place twice map_bits wrong_bit map_place bad_map left_out bad_home_index bad_home roomy ready verdict
 computed = refl

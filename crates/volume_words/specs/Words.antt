@@ -1,42 +1,15 @@
 -- The answer words of the calls on a volume.
-use Rattle.std.specs.Prelude.{ℕ, List, [], ◌∷◌}
-use Rattle.answer.specs.Words.{done_words, refused_words}
-use Rattle.volume_facts.specs.declared.types.GeometryAnswer.{GeometryAnswer}
-use Rattle.volume_facts.specs.declared.types.GeometryAnswer.TheVariants as geometries
-use Rattle.volume_facts.specs.declared.types.LabelAnswer.{LabelAnswer}
-use Rattle.volume_facts.specs.declared.types.LabelAnswer.TheVariants as labels
+use Rattle.answer.specs.Outcome.{Answer}
+use Rattle.answer.specs.Words.{words_of}
+use Rattle.std.specs.Prelude.{ℕ, List}
+use Rattle.volume_facts.specs.declared.types.Geometry.{Geometry}
+use Rattle.volume_facts.specs.declared.types.Label.{Label}
+use Rattle.volume_facts.specs.Values.{geometry_value, label_value}
 
--- N, the home's LBN, H.IBSZ, H.IBLB, H.FMAX, how many numbers have a slot, LBN and number of the blocks of the storage map's bits, H.VLEV, how many
--- headers the index file has.
-abbrev pub geometry_words : GeometryAnswer → List ℕ
-geometry_words (geometries.Done g) =
-    done_words (
-    g.blocks
-    ∷ g.home.0
-    ∷ g.ibsz
-    ∷ g.iblb.0
-    ∷ g.fmax
-    ∷ g.slots
-    ∷ g.map.0
-    ∷ g.map_blocks
-    ∷ g.vlev
-    ∷ g.index_headers
-    ∷ [])
-geometry_words (geometries.Refused r) = refused_words r
+-- Where the parts of a volume lie. No call of 01 has this value.
+abbrev pub geometry_words : Answer Geometry → List ℕ
+geometry_words = words_of geometry_value
 
--- The six words of H.VNAM, H.VOWN, H.VPRO, H.VCHA, H.DFPR.
-abbrev pub label_words : LabelAnswer → List ℕ
-label_words (labels.Done l) =
-    done_words (
-    l.name1
-    ∷ l.name2
-    ∷ l.name3
-    ∷ l.name4
-    ∷ l.name5
-    ∷ l.name6
-    ∷ l.owner
-    ∷ l.protection
-    ∷ l.characteristics
-    ∷ l.default_protection
-    ∷ [])
-label_words (labels.Refused r) = refused_words r
+-- The label of a volume. No call of 01 has this value.
+abbrev pub label_words : Answer Label → List ℕ
+label_words = words_of label_value

@@ -1,4 +1,7 @@
 -- Laws of a walk: what each step answers, and what all of them do.
+use Rattle.look_up.specs.declared.Step.{Step}
+use Rattle.answer.specs.Outcome.{Outcome, Answer}
+use Rattle.std.specs.Prelude.{Ok, Err}
 use mathlib.Core.Path.{◌≡◌, refl, sym, ap, ◌∙◌}
 use mathlib.Core.Bool.{Bool, true, false, not}
 use mathlib.Core.List.{List, [], ◌∷◌}
@@ -9,8 +12,6 @@ use Rattle.lists.proofs.FirstLaws.{Is, first-has, first_on, first-here}
 use Rattle.answer.specs.declared.types.FileId.{FileId}
 use Rattle.answer.specs.declared.refusal.Refusal.{Refusal}
 use Rattle.answer.specs.declared.refusal.Refusal.TheVariants.{Absent}
-use Rattle.answer.specs.declared.outcome.Outcome.{Outcome}
-use Rattle.answer.specs.declared.outcome.Outcome.TheVariants as outcome
 use Rattle.answer.proofs.OutcomeLaws.{refused-not}
 use Rattle.chains.specs.Chains.{file_blocks}
 use Rattle.open_file.specs.Opening.{open_file}
@@ -19,8 +20,6 @@ use Rattle.records.specs.declared.Entry.{Entry}
 use Rattle.records.specs.declared.Wanted.TheVariants.{Any}
 use Rattle.directory.specs.Search.{wanted_at, record_count, first_wanted, entry_of_file, filled_from}
 use Rattle.look_up.specs.LookUp.{find_next, next_record_answer}
-use Rattle.look_up.specs.declared.NextRecordAnswer.{NextRecordAnswer}
-use Rattle.look_up.specs.declared.NextRecordAnswer.TheVariants.{Done, Refused}
 use Rattle.look_up.proofs.LookUpLaws.{next-refused, next-absent, next-found}
 use Rattle.walker.specs.Walker.{place_after, Answers, Told, answered, walked, Walks}
 
@@ -73,19 +72,19 @@ module _ (image : List ℕ) (id : FileId) where
   told place = go (open_file image id) refl (dec_lt (found place) count)
     where
       go : (o : Outcome) → open_file image id ≡ o → Dec (found place < count) → Told image id place (next_record_answer image id place)
-      go outcome.Passed e (yes l) = rw (next-found image id place e (found place) refl l) (answers place l)
-      go outcome.Passed e (no l) = rw (next-absent image id place e (omega arith)) (refl, λ _ i a b. empty-before place i a (omega arith))
-      go (outcome.Refused r) e d = rw (next-refused image id place r e) (refl, λ p. absurd (refused-not r (sym e ∙ p)))
+      go (Ok tt) e (yes l) = rw (next-found image id place e (found place) refl l) (answers place l)
+      go (Ok tt) e (no l) = rw (next-absent image id place e (omega arith)) (refl, λ _ i a b. empty-before place i a (omega arith))
+      go (Err r) e d = rw (next-refused image id place r e) (refl, λ p. absurd (refused-not r (sym e ∙ p)))
 
-  pub stays-there : (place : ℕ) (r : Refusal) → next_record_answer image id place ≡ Refused r
-      → (place_after (next_record_answer image id place) place ≡ place) × (next_record_answer image id (place_after (next_record_answer image id place) place) ≡ Refused Absent)
+  pub stays-there : (place : ℕ) (r : Refusal) → next_record_answer image id place ≡ Err r
+      → (place_after (next_record_answer image id place) place ≡ place) × (next_record_answer image id (place_after (next_record_answer image id place) place) ≡ Err Absent)
   unfolding place_after
   stays-there place r h =
       let t = rw h at (told place) in
-      rw h (refl, h ∙ ap Refused t.0)
+      rw h (refl, h ∙ ap Err t.0)
 
   -- A walk at its end stays there, however many steps are left.
-  ended : (n place : ℕ) (r : Refusal) → next_record_answer image id place ≡ Refused r → walked image id n place ≡ []
+  ended : (n place : ℕ) (r : Refusal) → next_record_answer image id place ≡ Err r → walked image id n place ≡ []
   unfolding walked answered place_after
   ended zero place r h = refl
   ended (suc n) place r h = rw h (ended n place r h)
@@ -96,9 +95,9 @@ module _ (image : List ℕ) (id : FileId) where
   steps-over zero place h = refl
   steps-over (suc n) place h = go (next_record_answer image id (place + 1)) refl
     where
-      go : (s : NextRecordAnswer) → next_record_answer image id (place + 1) ≡ s → walked image id (suc n) place ≡ walked image id (suc n) (place + 1)
-      go (Done e next) q = rw (h, q)
-      go (Refused r) q = ended (suc n) place r (h ∙ q) ∙ sym (ended (suc n) (place + 1) r q)
+      go : (s : Answer Step) → next_record_answer image id (place + 1) ≡ s → walked image id (suc n) place ≡ walked image id (suc n) (place + 1)
+      go (Ok step) q = rw (h, q)
+      go (Err r) q = ended (suc n) place r (h ∙ q) ∙ sym (ended (suc n) (place + 1) r q)
 
   -- A step from an empty record is the step from the one behind it; from one that is not it answers that record.
   found-on : (place : ℕ) → place < count → is_empty (entry place) ≡ true → found place ≡ found (place + 1)
@@ -109,8 +108,8 @@ module _ (image : List ℕ) (id : FileId) where
   unfolding next_record_answer find_next
   next-empty place l e = rw (found-on place l e)
 
-  module _ (opened : open_file image id ≡ outcome.Passed) where
-    next-filled : (place : ℕ) → place < count → is_empty (entry place) ≡ false → next_record_answer image id place ≡ Done (entry place) (place + 1)
+  module _ (opened : open_file image id ≡ Ok tt) where
+    next-filled : (place : ℕ) → place < count → is_empty (entry place) ≡ false → next_record_answer image id place ≡ Ok (record { entry = entry place; next = place + 1 })
     unfolding first_wanted
     next-filled place l e = next-found image id place opened place (sym (first-here wanted place count l (wanted-is place ∙ ap not e))) l
 
@@ -129,7 +128,7 @@ module _ (image : List ℕ) (id : FileId) where
 pub walks : Walks
 walks = record {
   step = told;
-  onward = λ image id place e next h. let t = rw h at (told image id place) in omega (arith, t.onward, t.behind);
+  onward = λ image id place step h. let t = rw h at (told image id place) in omega (arith, t.onward, t.behind);
   stays = stays-there;
   at_once = next-refused;
   all = λ image id n opened few. walks_from image id opened (record_count image id.number) n 0 (omega arith) few;

@@ -9,40 +9,39 @@ ghost use Rattle.whole.specs.Whole.{ends_inside, link_tests, map_tests, first_un
 
 use answer::types::FileNumber;
 use header::fields::{m_efnu, m_efsq};
-use image::numbers::wide;
 use image::sums::checksum;
 use image::words::word_at;
 use pointers::{first_pointer, pointer_count, pointer_lbn, pointer_number};
 
 // Whether each pointer ends below the number of blocks.
+#[tactic(auto, using(lists::proofs::BelowLaws::below_none, lists::proofs::BelowLaws::below_more), unfolding(crate::specs::Whole::ends_inside))]
 fn pointers_end_inside(h: &[u8], blocks: u32) -> bool
     requires { Fits h.now }
     ensures { result ≡ below (pointers h.now) (ends_inside blocks h.now) }
 {
     let at = first_pointer(h);
     let number = pointer_number(h);
-    let mut p: usize = 0;
-    while p < number {
+    for p in 0..number {
         if blocks < pointer_lbn(h, at + 4 * p).0 + pointer_count(h, at + 4 * p) {
             return false;
         }
-        p += 1;
     }
     true
 }
 
 // The tests 6 to 12, on the map area. H.MPOF above 250 fails test 6 whatever M.MAX is, and nothing past the header is read.
+#[tactic(auto, unfolding(crate::specs::Whole::map_tests, crate::specs::Whole::first_unmet, header::specs::Fields::h_mpof, header::specs::Fields::map_area, header::specs::Fields::m_max, header::specs::Fields::m_use, header::specs::Fields::m_ctsz, header::specs::Fields::m_lbsz, header::specs::Fields::m_ervn, pointers::specs::Pointers::pointers_at, pointers::specs::Pointers::pointers))]
 fn map_fault(h: &[u8], blocks: u32) -> u8
     requires { length h.now ≡ 512 }
     ensures { result ≡ first_unmet 6 (map_tests blocks h.now) }
 {
-    let mpof = wide(h[1]) as usize;
+    let mpof = usize::from(h[1]);
     if 250 < mpof {
         return 6;
     }
     let m = 2 * mpof;
     let most = h[m + 9];
-    if 250 < mpof + (wide(most) as usize) {
+    if 250 < mpof + usize::from(most) {
         return 6;
     }
     let used = h[m + 8];
@@ -64,12 +63,12 @@ fn map_fault(h: &[u8], blocks: u32) -> u8
 }
 
 // The tests 11 and 12.
+#[tactic(auto, unfolding(crate::specs::Whole::link_tests, crate::specs::Whole::first_unmet))]
 fn link_fault(h: &[u8], blocks: u32) -> u8
     requires { Fits h.now }
     ensures { result ≡ first_unmet 11 (link_tests blocks h.now) }
 {
-    let linked = (m_efnu(h) != 0) | (m_efsq(h) == 0);
-    if !linked {
+    if m_efnu(h) == 0 && m_efsq(h) != 0 {
         return 11;
     }
     if !pointers_end_inside(h, blocks) {
@@ -79,6 +78,7 @@ fn link_fault(h: &[u8], blocks: u32) -> u8
 }
 
 // The first test, 1 to 12, that the header does not meet for file number n on a volume of so many blocks; 0 where it is whole.
+#[tactic(auto, unfolding(crate::specs::Whole::fault, crate::specs::Whole::tests, crate::specs::Whole::first_unmet, header::specs::Fields::h_flev, header::specs::Fields::h_fnum, header::specs::Fields::h_idof, header::specs::Fields::h_mpof))]
 pub fn fault(h: &[u8], blocks: u32, n: FileNumber) -> u8
     requires { length h.now ≡ 512 }
     ensures { result ≡ fault blocks n.0 h.now }
@@ -89,7 +89,7 @@ pub fn fault(h: &[u8], blocks: u32, n: FileNumber) -> u8
     if word_at(h, 6) != 257 {
         return 2;
     }
-    if (word_at(h, 2) as u32) != n.0 {
+    if u32::from(word_at(h, 2)) != n.0 {
         return 3;
     }
     if h[0] < 23 {

@@ -1,11 +1,9 @@
 -- The worked cases that 01, "Volume V", marks P: one statement.
-use Rattle.std.specs.Prelude.{◌≡◌, List, [], ◌∷◌, ℕ}
+use Rattle.std.specs.Prelude.{◌≡◌, List, [], ◌∷◌, ℕ, Ok, Err}
 use Rattle.image.specs.Stores.{zeros}
 use Rattle.image.specs.Sums.{checksum}
 use Rattle.answer.specs.declared.refusal.Refusal.TheVariants as refusal
 use Rattle.answer.specs.declared.types.FileId.{FileId}
-use Rattle.answer.specs.declared.answers.LbnAnswer.TheVariants as lbns
-use Rattle.radix50.specs.declared.words.Characters.TheVariants.{Done, Refused}
 use Rattle.radix50.specs.Words.{characters_of}
 use Rattle.parse.specs.Parse.{part_word}
 use Rattle.volume.specs.Volume.{map_blocks}
@@ -35,21 +33,21 @@ pub record Cases : Type 0 where
   -- "DAT 6460 (P)"
   pub dat-is : part_word dat 0 ≡ 6460
   -- "63,999 is `999` (P)"
-  pub nines : characters_of 63999 ≡ Done 57 57 57
+  pub nines : characters_of 63999 ≡ Ok (57 ∷ 57 ∷ 57 ∷ [])
   -- "64,000 refused (P)"
-  pub above : characters_of 64000 ≡ Refused refusal.Name
+  pub above : characters_of 64000 ≡ Err refusal.Name
   -- "words 65535, 2, rest 0 sum to 1 (P)"
   pub sum : checksum two_words 255 ≡ 1
   -- "H.FMAX 4096 gives m 1, 4097 gives 2 (P)"
   pub fmax-4096 : map_blocks 4096 ≡ 1
   pub fmax-4097 : map_blocks 4097 ≡ 2
   -- "6,9 VBN 2 is LBN 31 (P)"
-  pub vbn-2 : map_answer volume_v file6 2 ≡ lbns.Done (record { 0 = 31 })
+  pub vbn-2 : map_answer volume_v file6 2 ≡ Ok (record { 0 = 31 })
   -- "VBN 3 is 25 (P)"
-  pub vbn-3 : map_answer volume_v file6 3 ≡ lbns.Done (record { 0 = 25 })
+  pub vbn-3 : map_answer volume_v file6 3 ≡ Ok (record { 0 = 25 })
   -- "VBN 4 refused (P)"
-  pub vbn-4 : map_answer volume_v file6 4 ≡ lbns.Refused refusal.Vbn
+  pub vbn-4 : map_answer volume_v file6 4 ≡ Err refusal.Vbn
   -- "Extend by 4 takes 26 (P)". Here and below the work areas have N and H.FMAX bytes: 100 and 16.
-  pub extend-4 : extend_answer volume_v file6 4 100 16 ≡ lbns.Done (record { 0 = 26 })
+  pub extend-4 : extend_answer volume_v file6 4 100 16 ≡ Ok (record { 0 = 26 })
   -- "by 68 is RUN (P)"
-  pub extend-68 : extend_answer volume_v file6 68 100 16 ≡ lbns.Refused refusal.Run
+  pub extend-68 : extend_answer volume_v file6 68 100 16 ≡ Err refusal.Run

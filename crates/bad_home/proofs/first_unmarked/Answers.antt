@@ -1,13 +1,12 @@
 -- The mark of each position before i is 2.
-use mathlib.Core.Path.{◌≡◌, refl, sym, ◌∙◌}
+use mathlib.Core.Path.{◌≡◌, refl, ◌∙◌}
 use mathlib.Core.Bool.{true, false}
 use mathlib.Core.List.{List}
 use Prim.Native.Nat.{ℕ, ◌≤◌, ◌<◌}
 use native.Mathlib.Omega.{arith}
 use borrow.Author.Tests.{le-leb, lt-leb}
-use borrow.Author.Rules.{rules}
 use Rattle.image.specs.Words.{byte_at}
-use Rattle.lists.proofs.FirstLaws.{first-start, first-here, first_on, first-none}
+use Rattle.lists.proofs.FirstLaws.{first-here, first_on, first-none}
 use Rattle.home.specs.Home.{position}
 use Rattle.marks.specs.Marks.{marked_twice}
 use Rattle.bad_home.specs.Homes.{unmarked}
@@ -23,9 +22,6 @@ marked-is : (area : List ℕ) (i p : ℕ) → p ≡ position i → 2 ≤ byte_at
 unfolding unmarked marked_twice
 marked-is area i p e l = rw (← e, le-leb 2 (byte_at area p) l) refl
 
-pub loop-i-init : goal.loop-i-init
-loop-i-init c = (search rules, first-start (unmarked _) _)
-
 pub bounds-area-position : goal.bounds-area-position
 bounds-area-position c =
     omega (arith, c.position.ensures, position-most c.loop-i.i, c.requires.0)
@@ -33,14 +29,15 @@ bounds-area-position c =
 pub returns-then-area-position-lt2 : goal.returns-then-area-position-lt2
 returns-then-area-position-lt2 c =
     let a = c.args in
-    sym (c.loop-i.invariant.1 ∙ first-here (unmarked a.area.now) c.loop-i.i a.count (omega arith) (unmarked-is a.area.now c.loop-i.i _ c.position.ensures c.if-area-position-lt2.true))
+    (c.loop-i.invariant ∙ first-here (unmarked a.area.now) c.loop-i.i a.count (omega arith) (unmarked-is a.area.now c.loop-i.i _ c.position.ensures c.if-area-position-lt2.true), omega arith)
 
 pub loop-i-preserved : goal.loop-i-preserved
 loop-i-preserved c =
     let a = c.args in
-    (search rules, c.loop-i.invariant.1 ∙ first_on (unmarked a.area.now) c.loop-i.i a.count (omega arith) (marked-is a.area.now c.loop-i.i _ c.position.ensures c.if-area-position-lt2.false))
+    c.loop-i.invariant ∙ first_on (unmarked a.area.now) c.loop-i.i a.count (omega arith) (marked-is a.area.now c.loop-i.i _ c.position.ensures c.if-area-position-lt2.false)
 
 pub returns : goal.returns
 returns c =
     let a = c.args in
-    sym (c.loop-i.invariant.1 ∙ first-none (unmarked a.area.now) c.loop-i.i a.count (omega arith))
+    let e : c.loop-i.i ≡ a.count = omega arith in
+    c.loop-i.invariant ∙ first-none (unmarked a.area.now) c.loop-i.i a.count (omega arith) ∙ e

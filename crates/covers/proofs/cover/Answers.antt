@@ -17,10 +17,6 @@ clear_first-requires c =
     (says c.args.image.now c.args.v c.requires.0.1).blocks in
     omega (arith, c.requires.2, total)
 
-pub raise_headers-requires : goal.raise_headers-requires
-raise_headers-requires c =
-    (c.requires.0, c.requires.1, omega (arith, c.requires.2, c.clear_first.auto.area))
-
 pub returns : goal.returns
 returns c =
     let total : c.args.v.blocks ≡ blocks c.args.image.now =

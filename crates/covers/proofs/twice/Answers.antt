@@ -1,47 +1,42 @@
 -- The lowest mark 2 is the lowest block that is covered twice.
-use mathlib.Core.Path.{◌≡◌, sym, ap, ◌∙◌}
+use mathlib.Core.Path.{◌≡◌, ap, ◌∙◌}
+use mathlib.Core.List.{List}
+use Prim.Native.Nat.{ℕ}
 use native.Mathlib.Omega.{arith}
 use borrow.Author.Tests.{eq-eqb, ne_eqb}
 use Rattle.lists.specs.First.{first}
-use Rattle.lists.proofs.FirstLaws.{first-has}
 use Rattle.answer.specs.Outcome.{unless}
 use Rattle.home.specs.Home.{blocks}
+use Rattle.volume.specs.declared.Volume.{Volume}
+use Rattle.volume.specs.Opening.{Open}
 use Rattle.volume.proofs.VolumeLaws.{opens, says}
-use Rattle.marks.specs.Marks.{marked_twice}
-use Rattle.covers.specs.Covered.{twice_place, twice}
+use Rattle.marks.specs.Marks.{tallied, marked_twice}
+use Rattle.covers.specs.Covered.{covered, twice_place, twice}
 use Rattle.covers.proofs.MarkedLaws.{twice-marked}
 use Rattle.covers.proofs.twice.Goals as goal
 
-pub first_twice-place-requires : goal.first_twice-place-requires
-first_twice-place-requires c =
-    let total : c.args.v.blocks ≡ blocks c.args.image.now =
-    (says c.args.image.now c.args.v c.requires.0.1).blocks in
-    omega (arith, c.requires.1, total)
+-- What is found is the place of TWICE.
+at : (image area : List ℕ) (v : Volume) → Open image v → area ≡ tallied (covered image) 0 (blocks image) area → first (marked_twice area) 0 v.blocks ≡ twice_place image
+at image area v o marks = ap (first (marked_twice area) 0) (says image v o.1).blocks ∙ twice-marked image area marks
 
-pub overflow_cast-place : goal.overflow_cast-place
-overflow_cast-place c =
-    let total : c.args.v.blocks ≡ blocks c.args.image.now =
-    (says c.args.image.now c.args.v c.requires.0.1).blocks in
-    omega (arith, c.first_twice-place.ensures, (first-has (marked_twice c.args.area.now) 0 c.args.v.blocks).high, total, (opens c.args.image.now c.requires.0.0).most)
+pub first_twice-requires : goal.first_twice-requires
+first_twice-requires c = omega (arith, c.requires.1, (says _ c.args.v c.requires.0.1).blocks)
 
-pub returns-then-place-v : goal.returns-then-place-v
+pub overflow_cast-result : goal.overflow_cast-result
+overflow_cast-result c =
+    let total = (says _ c.args.v c.requires.0.1).blocks in
+    omega (arith, c.in-Some.ensures, total, (opens _ c.requires.0.0).most)
+
+pub returns-in-None : goal.returns-in-None
 unfolding twice unless
-returns-then-place-v c =
-    let total : c.args.v.blocks ≡ blocks c.args.image.now =
-    (says c.args.image.now c.args.v c.requires.0.1).blocks in
-    let found : c.first_twice-place.result ≡ twice_place c.args.image.now =
-    let image = c.args.image.now in
-    let area = c.args.area.now in
-    c.first_twice-place.ensures ∙ ap (first (marked_twice area) 0) (total) ∙ twice-marked image area c.requires.2 in
-    rw (eq-eqb (twice_place c.args.image.now) (blocks c.args.image.now) (sym (found) ∙ c.if-place-v.true ∙ total))
+returns-in-None c =
+    let total = (says _ c.args.v c.requires.0.1).blocks in
+    let is = at c.args.image.now c.args.area.now c.args.v c.requires.0 c.requires.2 in
+    rw (eq-eqb (twice_place c.args.image.now) (blocks c.args.image.now) (omega (arith, is, total, c.in-None.ensures)))
 
-pub returns-else-place-v : goal.returns-else-place-v
+pub returns-in-Some : goal.returns-in-Some
 unfolding twice unless
-returns-else-place-v c =
-    let total : c.args.v.blocks ≡ blocks c.args.image.now =
-    (says c.args.image.now c.args.v c.requires.0.1).blocks in
-    let found : c.first_twice-place.result ≡ twice_place c.args.image.now =
-    let image = c.args.image.now in
-    let area = c.args.area.now in
-    c.first_twice-place.ensures ∙ ap (first (marked_twice area) 0) (total) ∙ twice-marked image area c.requires.2 in
-    rw (ne_eqb (twice_place c.args.image.now) (blocks c.args.image.now) (λ e. c.if-place-v.false (found ∙ e ∙ sym (total))), ← found)
+returns-in-Some c =
+    let total = (says _ c.args.v c.requires.0.1).blocks in
+    let is = at c.args.image.now c.args.area.now c.args.v c.requires.0 c.requires.2 in
+    rw (ne_eqb (twice_place c.args.image.now) (blocks c.args.image.now) (omega (arith, is, total, c.in-Some.ensures)), ← is, c.in-Some.ensures.0)

@@ -1,50 +1,28 @@
 -- The volume is judged, and refused, or create goes on from there.
-use mathlib.Core.Path.{◌≡◌, refl, sym, ◌∙◌}
-use mathlib.Core.List.{List}
-use Prim.Native.Nat.{ℕ}
-use lib.ListN.{length}
+use mathlib.Core.Path.{refl}
+use native.Mathlib.Omega.{arith}
 use Rattle.image.specs.Stores.{zeros}
-use Rattle.answer.specs.declared.outcome.Outcome.TheVariants as outcome
-use Rattle.answer.proofs.AnswerLaws.{id-refused}
-use Rattle.verdict.specs.Verdict.{verdict}
+use Rattle.answer.specs.Answers.{answer_of}
+use Rattle.answer.specs.Outcome.{◌then◌}
+use Rattle.verdict.specs.Verdict.{afterwards}
 use Rattle.verdict.proofs.PassedLaws.{passed-opens}
-use Rattle.update.specs.Create.{create_answer, create_image}
-use Rattle.update.proofs.DoneLaws.{image-refused}
-use Rattle.create.proofs.CreateLaws.{judged-refused, judged-passed}
+use Rattle.update.specs.Create.{create_answer, create_image, create_outcome}
 use Rattle.create.proofs.create.Goals as goal
 
 -- The array lent for the places is new.
-pub judge_volume-j-requires : goal.judge_volume-j-requires
+pub judge_volume-requires : goal.judge_volume-requires
 unfolding zeros
-judge_volume-j-requires c = refl
+judge_volume-requires c = refl
 
 pub create_on-requires : goal.create_on-requires
 create_on-requires c =
-    let image : List ℕ = c.args.image.now in
-    let area : ℕ = length c.args.area.now in
-    let headers : ℕ = length c.args.headers.now in
-    let passed : verdict image area headers ≡ outcome.Passed = sym c.judge_volume-j.ensures.0 ∙ c.in-Passed.is in
-    (passed-opens image area headers passed, c.judge_volume-j.ensures.1 passed, c.judge_volume-j.ensures.4 passed)
+    let v = c.in_ok-v.ensures.judged in
+    (passed-opens _ _ _ v.0, v.1, v.2)
 
-pub returns-in-Passed : goal.returns-in-Passed
-unfolding create_answer create_image
-returns-in-Passed c =
-    let image : List ℕ = c.args.image.now in
-    let area : ℕ = length c.args.area.now in
-    let headers : ℕ = length c.args.headers.now in
-    let passed : verdict image area headers ≡ outcome.Passed = sym c.judge_volume-j.ensures.0 ∙ c.in-Passed.is in
-    let a = c.args in
-    let v = c.judge_volume-j.ensures in
-    let o = judged-passed image a.name area headers passed in
-    (rw o c.create_on.ensures.0, rw o c.create_on.ensures.1, v.2, v.3)
+pub returns-in_err-v : goal.returns-in_err-v
+unfolding create_answer create_image create_outcome answer_of afterwards ◌then◌
+returns-in_err-v c = (grind arith, grind arith, c.judge_volume.ensures.block_marks, c.judge_volume.ensures.header_marks)
 
-pub returns-in-Refused : goal.returns-in-Refused
-unfolding create_answer create_image
-returns-in-Refused c =
-    let image : List ℕ = c.args.image.now in
-    let area : ℕ = length c.args.area.now in
-    let headers : ℕ = length c.args.headers.now in
-    let a = c.args in
-    let v = c.judge_volume-j.ensures in
-    let o = judged-refused image a.name area headers _ (sym v.0 ∙ c.in-Refused.is) in
-    (id-refused _ _ _ o, image-refused _ _ _ _ o, v.2, v.3)
+pub returns : goal.returns
+unfolding create_answer create_image create_outcome answer_of afterwards ◌then◌
+returns c = (grind arith, grind arith, c.judge_volume.ensures.block_marks, c.judge_volume.ensures.header_marks)

@@ -1,48 +1,37 @@
 -- The tests are those of the definition, and where all are passed the chain is given up.
-use mathlib.Core.Path.{◌≡◌, sym, ◌∙◌}
-use mathlib.Core.List.{List}
-use Prim.Native.Nat.{ℕ}
+use mathlib.Core.Path.{◌≡◌, ◌∙◌}
 use native.Mathlib.Omega.{arith}
-use Rattle.answer.specs.declared.types.FileId.{FileId}
-use Rattle.answer.specs.declared.refusal.Refusal.TheVariants as refusal
-use Rattle.answer.specs.declared.outcome.Outcome.TheVariants.{Passed}
-use Rattle.open_file.specs.Opening.{anyone, open_on, open_file}
+use borrow.Author.Rules.{rules}
+use Rattle.std.specs.Prelude.{Ok}
+use Rattle.answer.specs.Outcome.{unless, ◌then◌}
+use Rattle.open_file.specs.Opening.{anyone, open_file}
 use Rattle.open_file.proofs.OpeningLaws.{opened, by-on}
+use Rattle.verdict.specs.Verdict.{afterwards}
+use Rattle.update.specs.Extend.{is_known_number}
 use Rattle.update.specs.Delete.{delete_tests}
-use Rattle.delete.proofs.OutcomeLaws.{tests-refused, tests-known, tests-passed, answer-refused, answer-done}
 use Rattle.delete.proofs.delete_on.Goals as goal
 
-pub open_on-file-requires : goal.open_on-file-requires
-open_on-file-requires c = c.requires.0
+pub returns-in_err-file : goal.returns-in_err-file
+unfolding delete_tests afterwards ◌then◌
+returns-in_err-file c =
+    let row = by-on anyone c.args.image.now c.args.id c.requires.0.0 ∙ c.in_err-file.ensures in
+    (grind arith, grind arith)
 
 pub returns-then-n-le5 : goal.returns-then-n-le5
+unfolding delete_tests is_known_number afterwards unless ◌then◌
 returns-then-n-le5 c =
-    let image : List ℕ = c.args.image.now in
-    let id : FileId = c.args.id in
-    let row : open_on anyone image id ≡ Passed = sym c.open_on-file.ensures.0 ∙ c.in-Passed.is in
-    let passed : open_file image id ≡ Passed = by-on anyone image id c.requires.0.0 ∙ row in
-    answer-refused image id (delete_tests image id) refusal.Known (tests-known image id passed (omega arith))
+    let row = by-on anyone c.args.image.now c.args.id c.requires.0.0 ∙ c.in_ok-file.ensures.0 in
+    (grind arith, grind arith)
 
 pub delete_chain-requires : goal.delete_chain-requires
 delete_chain-requires c =
-    let image : List ℕ = c.args.image.now in
-    let id : FileId = c.args.id in
-    let row : open_on anyone image id ≡ Passed = sym c.open_on-file.ensures.0 ∙ c.in-Passed.is in
-    let passed : open_file image id ≡ Passed = by-on anyone image id c.requires.0.0 ∙ row in
-    let o = opened image id passed in
-    (c.requires.0, c.requires.1, o.found.first, o.chain, omega arith, (c.open_on-file.ensures.1 row).1)
+    let row : open_file c.args.image.now c.args.id ≡ Ok tt = by-on anyone _ _ c.requires.0.0 ∙ c.in_ok-file.ensures.0 in
+    let o = opened c.args.image.now c.args.id row in
+    let e : c.from.result ≡ c.args.id.number = search rules in
+    rw e (c.requires.0, c.requires.1, o.found.first, o.chain, omega arith, c.in_ok-file.ensures.2)
 
-pub returns-else-n-le5 : goal.returns-else-n-le5
-returns-else-n-le5 c =
-    let image : List ℕ = c.args.image.now in
-    let id : FileId = c.args.id in
-    let row : open_on anyone image id ≡ Passed = sym c.open_on-file.ensures.0 ∙ c.in-Passed.is in
-    let passed : open_file image id ≡ Passed = by-on anyone image id c.requires.0.0 ∙ row in
-    answer-done image id (delete_tests image id) _ (tests-passed image id passed (omega arith)) c.delete_chain.ensures
-
-pub returns-in-Refused : goal.returns-in-Refused
-returns-in-Refused c =
-    let image = c.args.image.now in
-    let id = c.args.id in
-    answer-refused image id (delete_tests image id) _
-    (tests-refused image id _ (by-on anyone image id c.requires.0.0 ∙ (sym c.open_on-file.ensures.0 ∙ c.in-Refused.is)))
+pub returns : goal.returns
+unfolding delete_tests is_known_number afterwards unless ◌then◌
+returns c =
+    let row = by-on anyone c.args.image.now c.args.id c.requires.0.0 ∙ c.in_ok-file.ensures.0 in
+    (grind arith, grind arith)

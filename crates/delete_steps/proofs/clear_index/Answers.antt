@@ -1,35 +1,22 @@
--- After i turns the bits of the first i numbers are clear.
-use mathlib.Core.Path.{◌≡◌, refl, sym, ◌∙◌}
-use native.Mathlib.Omega.{arith}
-use borrow.Author.Rules.{rules}
+-- After each turn the bits of the numbers so far are clear.
+use mathlib.Core.Path.{sym}
+use lib.ListN.{take}
+use Rattle.std.proofs.lemmas.List.{take_all}
 use Rattle.delete_steps.proofs.StepLaws.{put-none, put-more, index_bits-none, index_bits-more}
 use Rattle.delete_steps.proofs.clear_index.Goals as goal
 
-pub loop-i-init : goal.loop-i-init
-loop-i-init c =
+pub loop-n-init : goal.loop-n-init
+loop-n-init c =
     let a = c.args in
-    (search rules, refl, sym (rw (index_bits-none a.numbers) (put-none a.image.now a.map.0 a.q c.requires.0 0)))
+    sym (rw (index_bits-none (take a.count a.numbers)) (put-none a.image.now a.map.0 a.q c.requires.0 0))
 
-pub overflow_sub-numbers : goal.overflow_sub-numbers
-overflow_sub-numbers c =
-    omega (arith, c.requires.2.each c.loop-i.i (omega arith))
-
-pub put_map_bit-requires : goal.put_map_bit-requires
-put_map_bit-requires c =
-    let p = c.requires in
-    (omega (arith, p.0, c.loop-i.invariant.1), omega (arith, p.2.each c.loop-i.i (omega arith)), omega arith)
-
-pub loop-i-preserved : goal.loop-i-preserved
-loop-i-preserved c =
-    let b = c.put_map_bit in
-    let more = index_bits-more c.args.numbers c.loop-i.i (omega (arith, c.requires.2.long)) in (
-      search rules,
-      b.auto.image ∙ c.loop-i.invariant.1,
-      put-more c.args.image.now c.args.map.0 c.args.q c.requires.0 _ _ _ 0 _ _ c.loop-i.invariant.2 b.ensures more,
-    )
+pub loop-n-preserved : goal.loop-n-preserved
+loop-n-preserved c =
+    let a = c.args in
+    put-more a.image.now a.map.0 a.q c.requires.0 _ _ _ 0 _ _ c.loop-n.invariant c.put_map_bit.ensures
+    (index_bits-more (take a.count a.numbers) c.loop-n.n-index c.loop-n-test.true)
 
 pub returns : goal.returns
 returns c =
-    let a = c.args in
-    let e : c.loop-i.i ≡ a.count = omega arith in
-    rw (← e) c.loop-i.invariant.2
+    let e = take_all c.loop-n.n-index (take c.args.count c.args.numbers) c.loop-n-test.false in
+    rw e at c.loop-n.invariant

@@ -1,27 +1,27 @@
--- After i turns the first i slots are cleared.
-use mathlib.Core.Path.{◌≡◌, refl, sym, ◌∙◌}
+-- After each turn the slots so far are cleared.
+use mathlib.Core.Path.{sym}
+use Prim.Native.Nat.{◌<◌}
 use native.Mathlib.Omega.{arith}
-use borrow.Author.Rules.{rules}
+use lib.ListN.{take, length-take}
+use lib.Seq.{get_or-take}
+use Rattle.std.proofs.lemmas.List.{take_all}
 use Rattle.delete_steps.proofs.StepLaws.{clear_none, clear-more}
 use Rattle.delete_steps.proofs.clear_slots.Goals as goal
 
-pub loop-i-init : goal.loop-i-init
-loop-i-init c = (search rules, refl, sym (clear_none _ c.args.slots))
+pub loop-slot-init : goal.loop-slot-init
+loop-slot-init c = sym (clear_none _ (take c.args.count c.args.slots))
 
 pub clear_at-requires : goal.clear_at-requires
 clear_at-requires c =
-    omega (arith, c.requires.1.each c.loop-i.i (omega arith), c.loop-i.invariant.1)
+    let i = c.loop-slot.slot-index in
+    let low : i < c.args.count = omega (arith, length-take c.args.count c.args.slots) in
+    omega (arith, get_or-take c.args.count c.args.slots i 0 low, c.requires.1.each i low)
 
-pub loop-i-preserved : goal.loop-i-preserved
-loop-i-preserved c =
-    let b = c.clear_at in (
-      search rules,
-      b.auto.image ∙ c.loop-i.invariant.1,
-      clear-more c.args.image.now c.args.slots c.loop-i.i (omega (arith, c.requires.1.long)) _ _ c.loop-i.invariant.2 b.ensures,
-    )
+pub loop-slot-preserved : goal.loop-slot-preserved
+loop-slot-preserved c =
+    clear-more c.args.image.now (take c.args.count c.args.slots) c.loop-slot.slot-index c.loop-slot-test.true _ _ c.loop-slot.invariant c.clear_at.ensures
 
 pub returns : goal.returns
 returns c =
-    let a = c.args in
-    let e : c.loop-i.i ≡ a.count = omega arith in
-    rw (← e) c.loop-i.invariant.2
+    let e = take_all c.loop-slot.slot-index (take c.args.count c.args.slots) c.loop-slot-test.false in
+    rw e at c.loop-slot.invariant

@@ -1,5 +1,4 @@
 -- The blocks of the run lie one behind the other; past their last record nothing is searched.
-use borrow.Author.Rules.{rules}
 use mathlib.Core.Path.{◌≡◌, sym}
 use Prim.Native.Nat.{◌*◌, min}
 use native.Mathlib.Omega.{arith}
@@ -13,18 +12,18 @@ use Rattle.directory.proofs.search_run.Goals as goal
 pub returns-then-end-from : goal.returns-then-end-from
 returns-then-end-from c =
     let a = c.args in
-    let none = search-none a.image.now (numbers_from a.lbn.0 a.count) a.w a.from a.to (omega (arith, numbers_from-length a.lbn.0 a.count)) in
+    let none = search-none a.image.now (numbers_from a.lbn.0 a.count) a.w a.from a.to (omega (arith, c.min-end.ensures, numbers_from-length a.lbn.0 a.count)) in
     search-range _ _ _ _ _ (omega arith) _ (sym none)
 
 pub first_in-requires : goal.first_in-requires
 first_in-requires c =
     let a = c.args in
     let long : length c.region-b.result.now ≡ 512 * a.count = rw c.region-b.ensures (region-length a.image.now a.lbn.0 a.count (omega arith)) in
-    (search rules, omega (arith, long))
+    (omega arith, omega (arith, c.min-end.ensures, long))
 
 pub returns : goal.returns
 returns c =
     let a = c.args in
-    let e : c.least-end.result ≡ min a.to (32 * a.count) = omega arith in
+    let e : c.min-end.result ≡ min a.to (32 * a.count) = omega (arith, c.min-end.ensures) in
     search-range _ _ _ _ _ (omega arith) _
     (rw (search-run a.image.now a.lbn.0 a.count a.w a.from a.to, ← c.region-b.ensures, ← e) c.first_in.ensures)

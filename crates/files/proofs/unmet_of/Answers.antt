@@ -1,41 +1,28 @@
 -- The slot that was found is that of a number in use, and the header in it is tested.
-use native.Mathlib.Omega.{arith}
-use mathlib.Core.Path.{◌≡◌, sym, ap, ◌∙◌}
-use Rattle.image.specs.Blocks.{block}
-use Rattle.volume.specs.declared.Slot.TheVariants.{At}
-use Rattle.volume.specs.Volume.{header, fault_of}
+use mathlib.Core.Path.{sym, ◌∙◌}
+use Rattle.volume.specs.Volume.{fault_of}
 use Rattle.volume.proofs.VolumeLaws.{says}
 use Rattle.chains.proofs.NumberLaws.{number-length}
-use Rattle.chains.proofs.LinkLaws.{Found, slot-found}
+use Rattle.chains.proofs.LinkLaws.{slot-found}
 use Rattle.files.specs.Files.{unmet_of}
+use Rattle.files.proofs.FileLaws.{number-read}
 use Rattle.files.proofs.unmet_of.Goals as goal
 
-pub slot_in_use-place-requires : goal.slot_in_use-place-requires
-slot_in_use-place-requires c = c.requires
-
 pub fault-requires : goal.fault-requires
-unfolding header
 fault-requires c =
-    let found : let a = c.args in Found a.image.now a.n.0 (At c.in-At.lbn) =
     let a = c.args in
-    slot-found a.image.now a.n.0 _ (sym c.slot_in_use-place.ensures ∙ c.in-At.is) in
-    let read : let a = c.args in c.block.result.now ≡ header a.image.now a.n.0 =
-    c.block.ensures ∙ ap (block c.args.image.now) (omega (arith, found)) in
-    rw (read) (number-length c.args.image.now c.args.n.0 found.0 c.requires.0)
+    let r = number-read a.image.now a.n.0 c.in-Some.lbn c.block.result.now (sym c.slot_in_use.ensures ∙ c.in-Some.is) c.block.ensures in
+    rw r.1 (number-length a.image.now a.n.0 r.0 c.requires.0)
 
-pub returns-in-At : goal.returns-in-At
-unfolding unmet_of fault_of header
-returns-in-At c =
-    let found : let a = c.args in Found a.image.now a.n.0 (At c.in-At.lbn) =
+pub returns-in-Some : goal.returns-in-Some
+unfolding unmet_of fault_of
+returns-in-Some c =
     let a = c.args in
-    slot-found a.image.now a.n.0 _ (sym c.slot_in_use-place.ensures ∙ c.in-At.is) in
-    let read : let a = c.args in c.block.result.now ≡ header a.image.now a.n.0 =
-    c.block.ensures ∙ ap (block c.args.image.now) (omega (arith, found)) in
-    rw (found.0, ← (says c.args.image.now c.args.v c.requires.1).blocks, ← read) c.fault.ensures
+    let r = number-read a.image.now a.n.0 c.in-Some.lbn c.block.result.now (sym c.slot_in_use.ensures ∙ c.in-Some.is) c.block.ensures in
+    rw (r.0, ← (says a.image.now a.v c.requires.1).blocks, ← r.1) c.fault.ensures
 
-pub returns-in-Missing : goal.returns-in-Missing
+pub returns-in-None : goal.returns-in-None
 unfolding unmet_of
-returns-in-Missing c =
-    let a = c.args in
-    let none = slot-found a.image.now a.n.0 _ (sym c.slot_in_use-place.ensures ∙ c.in-Missing.is) in
+returns-in-None c =
+    let none = slot-found c.args.image.now c.args.n.0 _ (sym c.slot_in_use.ensures ∙ c.in-None.is) in
     rw none

@@ -1,11 +1,9 @@
 -- The pointer is stored where the last one ends, and leaves the map area where it was.
-use mathlib.Core.Path.{◌≡◌, ap, ap₂, ◌∙◌}
-use Prim.Native.Nat.{ℕ, ◌+◌, ◌*◌}
+use mathlib.Core.Path.{◌≡◌, ap}
 use native.Mathlib.Omega.{arith}
 use borrow.Author.Rules.{rules}
 use Rattle.header.specs.Fields.{map_area}
-use Rattle.fresh_header.specs.Fresh.{sealed}
-use Rattle.header_edit.specs.Extended.{put_pointer, next_pointer, put_use, extended_header}
+use Rattle.header_edit.specs.Extended.{put_pointer, next_pointer, extended_header}
 use Rattle.header_edit.proofs.ExtendedLaws.{next-inside, use-inside}
 use Rattle.header_edit.proofs.add_pointer.Goals as goal
 
@@ -24,8 +22,4 @@ put_use-requires c =
 
 pub returns : goal.returns
 unfolding extended_header next_pointer
-returns c =
-    let a = c.args in
-    let next : c.first_pointer-first.result + 4 * c.pointer_number-number.result ≡ next_pointer a.h.now = omega (arith, c.first_pointer-first.ensures.0, c.pointer_number-number.ensures.0) in
-    c.seal.ensures
-    ∙ ap sealed (c.put_use.ensures ∙ ap₂ put_use (c.put_pointer.ensures ∙ ap (λ (at : ℕ). put_pointer a.h.now at a.lbn.0 a.c) next) (ap (λ (w : ℕ). w + 2) c.m_use-words.ensures))
+returns c = cc

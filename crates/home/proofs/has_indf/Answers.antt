@@ -1,22 +1,20 @@
--- At each turn the bytes so far are the label's or not.
-use borrow.Author.Rules.{rules}
-use mathlib.Core.Path.{refl, ap, ◌∙◌}
-use Prim.Native.Nat.{ℕ}
+-- The code's label is the definition's.
+use mathlib.Core.Path.{ap, ◌∙◌}
+use mathlib.Core.List.{List}
+use Prim.Native.Nat.{ℕ, ◌-◌}
 use native.Mathlib.Omega.{arith}
-use native.Mathlib.Numerals.{add-one}
-use Rattle.lists.specs.First.{below}
-use Rattle.home.specs.Home.{indf, indf_at}
+use lib.ListN.{length, drop, length-drop}
+use lib.Seq.{take_all}
+use Rattle.std.specs.Bool.{nat_eq}
+use Rattle.std.specs.List.{starts_with}
+use Rattle.home.specs.Home.{indf}
+use Rattle.home.proofs.HomeLaws.{starts_with-indf}
 use Rattle.home.proofs.has_indf.Goals as goal
 
-pub loop-i-init : goal.loop-i-init
-unfolding below
-loop-i-init c = (search rules, refl)
-
-pub loop-i-preserved : goal.loop-i-preserved
-unfolding below indf_at indf
-loop-i-preserved c =
-    (search rules, rw (add-one c.loop-i.i, c.loop-i.invariant.1))
-
 pub returns : goal.returns
+unfolding indf
 returns c =
-    c.loop-i.invariant.1 ∙ ap (λ (i : ℕ). below i (indf_at c.args.b.now)) (omega arith)
+    let b = c.args.b.now in
+    c.starts_with.ensures.value
+    ∙ ap (λ (s : List ℕ). starts_with nat_eq s indf) (take_all (length b - 496) (drop 496 b) (omega (arith, length-drop 496 b)))
+    ∙ starts_with-indf b c.requires

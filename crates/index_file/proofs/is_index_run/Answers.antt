@@ -1,17 +1,13 @@
 -- While the loop goes on, the first i blocks are the index file's.
-use borrow.Author.Rules.{rules}
 use native.Mathlib.Omega.{arith}
-use mathlib.Core.Path.{◌≡◌, sym}
+use mathlib.Core.Path.{sym}
 use Prim.Native.Nat.{◌+◌}
 use lib.Dec.{eqb}
-use borrow.Author.Tests.{eq-eqb, ne_eqb}
-use Rattle.lists.proofs.BelowLaws.{below_none, below_more, below_fails}
+use borrow.Author.Tests.{ne_eqb}
+use Rattle.lists.proofs.BelowLaws.{below_fails}
 use Rattle.volume.specs.Opening.{index_lbn}
 use Rattle.volume.proofs.OpeningLaws.{run-rises}
 use Rattle.index_file.proofs.is_index_run.Goals as goal
-
-pub loop-i-init : goal.loop-i-init
-loop-i-init c = (search rules, below_none _)
 
 pub returns-then-lbn-i : goal.returns-then-lbn-i
 returns-then-lbn-i c =
@@ -22,15 +18,4 @@ returns-then-lbn-i c =
 pub returns-then-k-i-ge2 : goal.returns-then-k-i-ge2
 returns-then-k-i-ge2 c =
     let a = c.args in
-    sym (run-rises a.home.0 a.iblb.0 a.lbn.0 a.k a.c c.loop-i.i (omega arith) (omega arith) c.loop-i.invariant.1)
-
-pub loop-i-preserved : goal.loop-i-preserved
-loop-i-preserved c =
-    let a = c.args in
-    let i = c.loop-i.i in
-    (search rules, below_more i (λ i. eqb (a.lbn.0 + i) (index_lbn a.home.0 a.iblb.0 (a.k + i))) c.loop-i.invariant.1 (eq-eqb (a.lbn.0 + i) (index_lbn a.home.0 a.iblb.0 (a.k + i)) (omega arith)))
-
-pub returns : goal.returns
-returns c =
-    let e : c.loop-i.i ≡ c.args.c = omega arith in
-    sym (rw (← e) c.loop-i.invariant.1)
+    sym (run-rises a.home.0 a.iblb.0 a.lbn.0 a.k a.c c.loop-i.i (omega arith) (omega arith) c.loop-i.invariant)

@@ -1,10 +1,11 @@
 -- A mark is capped at 2, and a header is wanted at most once.
+use Rattle.std.specs.Prelude.{Ok}
 use native.Mathlib.Omega.{arith}
 use mathlib.Core.Path.{◌≡◌, sym, ap, ◌∙◌}
 use mathlib.Core.Bool.{true}
 use mathlib.Core.List.{List}
 use Prim.Native.Nat.{ℕ}
-use Rattle.answer.specs.declared.outcome.Outcome.TheVariants.{Passed}
+use borrow.Author.Tests.{ne_eqb}
 use Rattle.image.specs.Blocks.{block}
 use Rattle.volume.specs.Opening.{open_volume}
 use Rattle.files.specs.Files.{files}
@@ -19,7 +20,7 @@ use Rattle.links.proofs.LinksLaws.{link-unused, link-miscounted, link-counted, w
 use Rattle.links.proofs.is_bad_link.Goals as goal
 
 -- The header that was read is the one of the number.
-read : (image h : List ℕ) (n : ℕ) (run : SlotRun) → open_volume image ≡ Passed → files image ≡ Passed → Stands image n run → in_use image n ≡ true
+read : (image h : List ℕ) (n : ℕ) (run : SlotRun) → open_volume image ≡ Ok tt → files image ≡ Ok tt → Stands image n run → in_use image n ≡ true
     → h ≡ block image run.lbn.0 → h ≡ header image n
 read image h n run o f s u e = e ∙ stands_read image n run s ((files-passed image (opens image o).enough f).slotted n u)
 
@@ -37,13 +38,10 @@ returns-then-mark-links_wanted c =
     let wanted : c.links_wanted.result ≡ links_wanted (header image n) =
     c.links_wanted.ensures ∙ ap links_wanted (read image _ n c.args.run p.0.0 p.1 p.2 used c.block-h.ensures) in
     let most = wanted-most (header image n) in
-    sym (link-miscounted image (linked image) n used (λ q. omega (arith, p.4, is-capped (linked image) n (links_wanted (header image n)) most q, most, wanted)))
+    rw (ne_eqb c.args.mark c.links_wanted.result (omega arith)) (sym (link-miscounted image (linked image) n used (λ q. omega (arith, p.4, is-capped (linked image) n (links_wanted (header image n)) most q, most, wanted))))
 
-pub has_good_link-good-requires : goal.has_good_link-good-requires
-has_good_link-good-requires c = (c.requires.0, c.requires.1)
-
-pub returns : goal.returns
-returns c =
+pub returns-else-mark-links_wanted : goal.returns-else-mark-links_wanted
+returns-else-mark-links_wanted c =
     let image = c.args.image.now in
     let n = c.args.n.0 in
     let p = c.requires in
@@ -51,4 +49,4 @@ returns c =
     let is : c.block-h.result.now ≡ header image n = read image _ n c.args.run p.0.0 p.1 p.2 used c.block-h.ensures in
     let wanted : c.links_wanted.result ≡ links_wanted (header image n) = c.links_wanted.ensures ∙ ap links_wanted is in
     let counted = capped_is (linked image) n (links_wanted (header image n)) (wanted-most (header image n)) (omega (arith, p.4, wanted)) in
-    rw (link-counted image (linked image) n used counted, ← is, ← c.has_good_link-good.ensures)
+    rw (link-counted image (linked image) n used counted, ← is, ← c.has_good_link.ensures)

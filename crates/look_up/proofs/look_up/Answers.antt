@@ -1,26 +1,17 @@
 -- Opening is refused, or the directory that opens is searched.
-use mathlib.Core.Path.{refl, sym, ◌∙◌}
+use borrow.Author.Rules.{rules}
 use native.Mathlib.Omega.{arith}
-use Rattle.image.specs.Stores.{zeros}
 use Rattle.directory.proofs.SearchLaws.{records-count}
-use Rattle.look_up.proofs.LookUpLaws.{look-refused}
+use Rattle.answer.specs.Outcome.{◌then◌}
+use Rattle.answer.specs.Answers.{answer_of}
+use Rattle.look_up.specs.LookUp.{find_name, look_up_answer}
 use Rattle.look_up.proofs.look_up.Goals as goal
-
--- The array lent for the places is new.
-pub open-file-requires : goal.open-file-requires
-unfolding zeros
-open-file-requires c = refl
 
 pub look_up_opened-requires : goal.look_up_opened-requires
 look_up_opened-requires c =
-    let a = c.args in
-    let passed = sym c.open-file.ensures.0 ∙ c.in-Passed.is in
-    (passed, (c.open-file.ensures.1 passed).0, omega (arith, (c.open-file.ensures.1 passed).1, records-count a.image.now a.id.number), (c.open-file.ensures.1 passed).2, c.open-file.ensures.3 passed)
+    let p = c.in_ok-file.ensures in
+    (p.0, p.1, omega (arith, c.record_count-count.ensures, p.2, records-count c.args.image.now c.args.id.number), p.3, p.5)
 
-pub returns-in-Passed : goal.returns-in-Passed
-returns-in-Passed c = c.look_up_opened.ensures
-
-pub returns-in-Refused : goal.returns-in-Refused
-returns-in-Refused c =
-    let a = c.args in
-    sym (look-refused a.image.now a.id a.name _ (sym c.open-file.ensures.0 ∙ c.in-Refused.is))
+pub returns-in_err-file : goal.returns-in_err-file
+unfolding look_up_answer find_name answer_of ◌then◌
+returns-in_err-file c = search rules

@@ -1,26 +1,14 @@
 -- Opening is refused, or the directory that opens is searched.
-use mathlib.Core.Path.{refl, sym, ◌∙◌}
+use mathlib.Core.Path.{sym}
 use native.Mathlib.Omega.{arith}
-use Rattle.image.specs.Stores.{zeros}
 use Rattle.directory.proofs.SearchLaws.{records-count}
 use Rattle.look_up.proofs.LookUpLaws.{next-refused}
 use Rattle.look_up.proofs.next_record.Goals as goal
 
--- The array lent for the places is new.
-pub open-file-requires : goal.open-file-requires
-unfolding zeros
-open-file-requires c = refl
-
 pub next_opened-requires : goal.next_opened-requires
 next_opened-requires c =
-    let a = c.args in
-    let passed = sym c.open-file.ensures.0 ∙ c.in-Passed.is in
-    (passed, (c.open-file.ensures.1 passed).0, omega (arith, (c.open-file.ensures.1 passed).1, records-count a.image.now a.id.number), (c.open-file.ensures.1 passed).2, c.open-file.ensures.3 passed)
+    let p = c.in-Ok.ensures in
+    (p.0, p.1, omega (arith, c.record_count-count.ensures, p.2, records-count c.args.image.now c.args.id.number), p.3, p.5)
 
-pub returns-in-Passed : goal.returns-in-Passed
-returns-in-Passed c = c.next_opened.ensures
-
-pub returns-in-Refused : goal.returns-in-Refused
-returns-in-Refused c =
-    let a = c.args in
-    sym (next-refused a.image.now a.id a.place _ (sym c.open-file.ensures.0 ∙ c.in-Refused.is))
+pub returns-in_default : goal.returns-in_default
+returns-in_default c = sym (next-refused c.args.image.now c.args.id c.args.place _ c.in_default.ensures)

@@ -1,11 +1,7 @@
-use mathlib.Core.Path.{◌≡◌}
-use Prim.Native.Nat.{◌-◌, ◌≤◌}
+use Rattle.std.proofs.Common.{◌≡◌, ◌-◌, ◌≤◌}
 use Rattle.lists.specs.Counts.{how_many}
 use Rattle.image.specs.Bits.{is_set}
 use Rattle.map_bits.proofs.count_bits.Given as goal
 
 abbrev pub invariant-loop-j : goal.invariant-loop-j
-invariant-loop-j l = (l.from ≤ l.j) × (l.j ≤ l.to) × (l.total ≤ l.j - l.from) × (l.total ≡ how_many (is_set l.map) l.from (l.j - l.from))
-
-abbrev pub decreases-loop-j : goal.decreases-loop-j
-decreases-loop-j l = l.to - l.j
+invariant-loop-j l = (l.total ≤ l.j - l.from) × (l.total ≡ how_many (is_set l.map) l.from (l.j - l.from))

@@ -1,24 +1,28 @@
--- No mark before j says "twice".
-use native.Mathlib.Omega.{arith}
-use borrow.Author.Rules.{rules}
-use Rattle.lists.proofs.FirstLaws.{first-start, first-here, first_on, first-none}
+-- No mark before the one found says "twice", and none does where none is found.
+use Rattle.std.proofs.Common.{◌≡◌, ℕ, ◌<◌, ◌≤◌, List, take, arith, rules, Option, None, Some, get_or-take}
+use Rattle.std.specs.List.{AllWithin, HoldsAt}
+use Rattle.std.specs.Option.{MatchOption}
+use Rattle.lists.specs.First.{first}
+use Rattle.lists.proofs.FirstLaws.{first-is}
 use Rattle.marks.specs.Marks.{marked_twice}
-use Rattle.marks.proofs.MarkLaws.{twice-true, twice-false}
+use Rattle.marks.proofs.MarkLaws.{twice-true, twice-false, twice-none}
 use Rattle.marks.proofs.search_twice.Goals as goal
 
-pub loop-j-init : goal.loop-j-init
-loop-j-init c = (omega arith, first-start _ _)
+abbrev Found : List ℕ → ℕ → Option ℕ → Type 0
+Found s k r = MatchOption r (AllWithin (λ m. m < 2) s 0 k) (λ i. (i < k) × HoldsAt (λ m. 2 ≤ m) s i × AllWithin (λ m. m < 2) s 0 i)
 
-pub returns-then-area-j-ge2 : goal.returns-then-area-j-ge2
-returns-then-area-j-ge2 c =
-    let a = c.args in
-    cc (first-here (marked_twice a.area.now) c.loop-j.j a.k (omega arith) (twice-true a.area.now c.loop-j.j (omega arith)))
-
-pub loop-j-preserved : goal.loop-j-preserved
-loop-j-preserved c =
-    let a = c.args in
-    (search rules, cc (first_on (marked_twice a.area.now) c.loop-j.j a.k (omega arith) (twice-false a.area.now c.loop-j.j (omega arith))))
+found-first : (area : List ℕ) (k : ℕ) (r : Option ℕ) → Found (take k area) k r
+    → MatchOption r (first (marked_twice area) 0 k ≡ k) (λ i. (first (marked_twice area) 0 k ≡ i) × (i < k))
+found-first area k None none = twice-none area k (λ j h. rw (← get_or-take k area j 0 h) (none j 0 (omega arith) h))
+found-first area k (Some i) (inside, here, before) = (
+  first-is (marked_twice area) 0 k i record {
+    low = omega arith;
+    high = omega arith;
+    before = λ j a b. twice-false area j (rw (← get_or-take k area j 0 (omega arith)) (before j 0 (omega arith) b));
+    here = λ l. twice-true area i (rw (← get_or-take k area i 0 inside) (here 0));
+  },
+  inside,
+)
 
 pub returns : goal.returns
-returns c =
-    cc (first-none (marked_twice c.args.area.now) c.loop-j.j c.args.k (omega arith))
+returns c = found-first c.args.area.now c.args.k c.position.result (search rules)

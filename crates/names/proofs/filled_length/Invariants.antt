@@ -1,11 +1,8 @@
 use mathlib.Core.Path.{◌≡◌}
-use Prim.Native.Nat.{◌+◌, ◌≤◌, ◌-◌}
+use Prim.Native.Nat.{◌+◌}
 use lib.ListN.{length, drop}
 use Rattle.names.specs.Names.{filled, kept}
 use Rattle.names.proofs.filled_length.Given as goal
 
 abbrev pub invariant-loop-i : goal.invariant-loop-i
-invariant-loop-i l = (l.i ≤ length l.cs) × (filled l.cs ≡ filled (drop l.i l.cs)) × (length (kept l.cs) ≡ l.i + length (kept (drop l.i l.cs)))
-
-abbrev pub decreases-loop-i : goal.decreases-loop-i
-decreases-loop-i l = length l.cs - l.i
+invariant-loop-i l = (filled l.cs ≡ filled (drop l.i l.cs)) × (length (kept l.cs) ≡ l.i + length (kept (drop l.i l.cs)))

@@ -1,21 +1,14 @@
--- The loop goes through the codes from the front, as `blank` does.
-use native.Mathlib.Omega.{arith}
+-- `blank` makes the chain's test of each code.
+use mathlib.Core.Path.{◌∙◌}
 use borrow.Author.Rules.{rules}
-use mathlib.Core.Path.{refl, sym, ◌∙◌}
-use Rattle.names.proofs.NameLaws.{blank-on, blank-off, blank-end}
+use borrow.Author.Tests.{tests}
+use Rattle.std.specs.Prelude.{◌==◌}
+use Rattle.std.proofs.lemmas.Iterator.{YieldsList-from_slice}
+use Rattle.std.proofs.lemmas.Iterator.Search.{all_from_yields_List}
+use Rattle.names.proofs.NameLaws.{list_all-blank}
 use Rattle.names.proofs.is_blank.Goals as goal
-
-pub loop-i-init : goal.loop-i-init
-loop-i-init c = (search rules, refl)
-
-pub returns-then-cs-i-ne0 : goal.returns-then-cs-i-ne0
-returns-then-cs-i-ne0 c =
-    sym (c.loop-i.invariant.1 ∙ blank-off c.args.cs.now c.loop-i.i (omega arith) c.if-cs-i-ne0.true)
-
-pub loop-i-preserved : goal.loop-i-preserved
-loop-i-preserved c =
-    (search rules, c.loop-i.invariant.1 ∙ blank-on c.args.cs.now c.loop-i.i (omega arith) c.if-cs-i-ne0.false)
 
 pub returns : goal.returns
 returns c =
-    sym (c.loop-i.invariant.1 ∙ blank-end c.args.cs.now c.loop-i.i (omega arith))
+    all_from_yields_List (λ x. x == 0) _ _ _ c.all.ensures.ran (YieldsList-from_slice c.args.cs.now cc) (λ x b q k. search (rules, tests))
+    ∙ list_all-blank c.args.cs.now

@@ -1,54 +1,28 @@
 -- Each part is asked where those before it are passed, and the header that was found is the one in the slot.
+use Rattle.std.proofs.Common.{rules}
 use mathlib.Core.Path.{◌≡◌, sym, ap, ◌∙◌}
 use Rattle.image.specs.Blocks.{block}
-use Rattle.volume.specs.Volume.{slot, header}
-use Rattle.answer.specs.declared.outcome.Outcome.TheVariants.{Passed}
-use Rattle.open_file.specs.Opening.{find, access, anyone}
+use Rattle.volume.specs.Volume.{header}
+use Rattle.open_file.specs.Opening.{anyone}
 use Rattle.open_file.proofs.OpeningLaws.{access-by, tells-refused, finds, anyone-passed, on-unfound, on-locked, on-chained}
 use Rattle.open_file.proofs.open_on.Goals as goal
 
-pub find-found-requires : goal.find-found-requires
-find-found-requires c = c.requires
+pub returns-in_err-lbn : goal.returns-in_err-lbn
+returns-in_err-lbn c = tells-refused c.args.image.now c.args.id _ _ _ (search rules) (on-unfound anyone c.args.image.now c.args.id _ c.in_err-lbn.ensures)
+
+pub returns-in_err-access : goal.returns-in_err-access
+unfolding header
+returns-in_err-access c =
+    let f = c.in_ok-lbn.ensures in
+    let asked = access-by c.args.image.now c.args.id _ (c.block.ensures ∙ ap (block c.args.image.now) f.1) in
+    tells-refused c.args.image.now c.args.id _ _ _ (search rules) (on-locked anyone c.args.image.now c.args.id f.0 (anyone-passed _) _ (sym asked ∙ sym c.access.ensures ∙ c.in_err-access.was))
 
 pub open_chain-requires : goal.open_chain-requires
-open_chain-requires c =
-    let known : let a = c.args in (find a.image.now a.id ≡ Passed) × (c.find-found.result.header.0 ≡ slot a.image.now a.id.number) =
-    let e = sym c.find-found.ensures.0 ∙ c.in-Passed.is in
-    (e, c.find-found.ensures.1 e) in
-    (c.requires, (finds c.args.image.now c.args.id known.0).first, known.1)
+open_chain-requires c = (c.requires, (finds _ _ c.in_ok-lbn.ensures.0).first, c.in_ok-lbn.ensures.1)
 
-pub returns-in-Passed-admitted : goal.returns-in-Passed-admitted
+pub returns : goal.returns
 unfolding header
-returns-in-Passed-admitted c =
-    let known : let a = c.args in (find a.image.now a.id ≡ Passed) × (c.find-found.result.header.0 ≡ slot a.image.now a.id.number) =
-    let e = sym c.find-found.ensures.0 ∙ c.in-Passed.is in
-    (e, c.find-found.ensures.1 e) in
-    let asked : let a = c.args in c.access-admitted.result ≡ access a.image.now a.id =
-    let a = c.args in
-    c.access-admitted.ensures ∙ access-by a.image.now a.id _ (c.block.ensures ∙ ap (block a.image.now) known.1) in
-    let a = c.args in
-    let image = a.image.now in
-    rw (on-chained anyone image a.id known.0 (anyone-passed _) (sym (asked) ∙ c.in-Passed-admitted.is)) c.open_chain.ensures
-
-pub returns-in-Refused-admitted : goal.returns-in-Refused-admitted
-unfolding header
-returns-in-Refused-admitted c =
-    let known : let a = c.args in (find a.image.now a.id ≡ Passed) × (c.find-found.result.header.0 ≡ slot a.image.now a.id.number) =
-    let e = sym c.find-found.ensures.0 ∙ c.in-Passed.is in
-    (e, c.find-found.ensures.1 e) in
-    let asked : let a = c.args in c.access-admitted.result ≡ access a.image.now a.id =
-    let a = c.args in
-    c.access-admitted.ensures ∙ access-by a.image.now a.id _ (c.block.ensures ∙ ap (block a.image.now) known.1) in
-    let a = c.args in
-    let image = a.image.now in
-    tells-refused image a.id _ _ _
-    (on-locked anyone image a.id known.0 (anyone-passed _) _ (sym (asked) ∙ c.in-Refused-admitted.is))
-    c.refused.ensures.0 c.refused.ensures.1
-
-pub returns-in-Refused : goal.returns-in-Refused
-returns-in-Refused c =
-    let a = c.args in
-    let image = a.image.now in
-    tells-refused image a.id _ _ _
-    (on-unfound anyone image a.id _ (sym c.find-found.ensures.0 ∙ c.in-Refused.is))
-    c.refused-in-Refused.ensures.0 c.refused-in-Refused.ensures.1
+returns c =
+    let f = c.in_ok-lbn.ensures in
+    let asked = access-by c.args.image.now c.args.id _ (c.block.ensures ∙ ap (block c.args.image.now) f.1) in
+    rw (on-chained anyone c.args.image.now c.args.id f.0 (anyone-passed _) (sym asked ∙ sym c.access.ensures ∙ c.in_ok-access.was)) c.open_chain.ensures

@@ -1,163 +1,129 @@
 -- Header 1 lies where it must, the headers after it where they lead on, and header 2 in its slot.
+use Rattle.std.proofs.lemmas.Result.{err_from_is_err_and}
 use native.Mathlib.Omega.{arith}
 use mathlib.Core.Path.{◌≡◌, sym, ap, ap₂, ◌∙◌}
-use mathlib.Core.Bool.{true, false, not, ◌&&◌, and-eq-true_iff}
+use mathlib.Core.Bool.{Bool, true, false, ◌&&◌, and-false, and-eq-true_iff}
 use mathlib.Core.List.{List}
-use Prim.Native.Nat.{ℕ, ◌+◌, ◌≤◌}
+use Prim.Native.Nat.{ℕ, ◌+◌}
 use lib.ListN.{length, get_or}
-use borrow.Author.Tests.{not-true, not-false, eq-eqb, ne_eqb}
 use lib.Dec.{eqb}
 use Rattle.answer.specs.declared.refusal.Refusal.TheVariants as refusal
-use Rattle.pointers.specs.Pointers.{blocks_of}
+use Rattle.image.specs.Blocks.{block}
+use Rattle.image.specs.Words.{byte_at}
+use Rattle.pointers.specs.Pointers.{Fits, blocks_of}
 use Rattle.whole.proofs.WholeLaws.{whole-fits}
 use Rattle.home.specs.Home.{blocks, home}
-use Rattle.volume.specs.Volume.{iblb, ibsz, index_header, index_ends, places_of, header, base}
-use Rattle.volume.specs.Opening.{heads, index_mapped, indexed, stored}
-use Rattle.open_volume.proofs.AnswerLaws.{open-refused}
+use Rattle.volume.specs.declared.Volume.{Volume}
+use Rattle.volume.specs.Volume.{iblb, ibsz, index_header, index_ends, places_of, header, base, map_blocks}
+use Rattle.volume.specs.Opening.{sized, geometry, heads, alone, index_mapped, storage_mapped, indexed, stored, Laid}
 use Rattle.volume.proofs.OpeningLaws.{open-index, open-storage, open-passed}
 use Rattle.volume.proofs.VolumeLaws.{begins, laid-room, laid-length, laid-header1, laid-begins, laid-indexed, laid-header2, laid-stored, stored-gives, says_all}
 use Rattle.open_volume.proofs.open_laid_out.Goals as goal
 
-pub overflow_add-first : goal.overflow_add-first
-overflow_add-first c =
-    let room : (c.args.v.iblb.0 + c.args.v.ibsz + 16 ≤ c.args.v.blocks) × (c.args.v.blocks ≤ 1044480) =
-    laid-room c.args.image.now c.args.v c.requires.3 c.requires.0 c.requires.2 in
-    omega (arith, room)
+-- What is read of a volume that is laid out so.
+module _ (image : List ℕ) (v : Volume) (s : sized image ≡ true) (g : geometry image ≡ true) (l : Laid image v) where
+  -- Header 1, and the test of it.
+  module _ (h : List ℕ) (b : Bool) (e : h ≡ block image (v.iblb.0 + v.ibsz)) (f : b ≡ (heads v.blocks 1 h && index_mapped v.home.0 v.iblb.0 v.ibsz (blocks_of h))) where
+    begun : b ≡ begins image v l
+    begun = f ∙ rw e (rw (laid-header1 image v l) (laid-begins image v l))
 
-pub is_indexed-indexed-requires : goal.is_indexed-indexed-requires
-is_indexed-indexed-requires c =
-    let room : (c.args.v.iblb.0 + c.args.v.ibsz + 16 ≤ c.args.v.blocks) × (c.args.v.blocks ≤ 1044480) =
-    laid-room c.args.image.now c.args.v c.requires.3 c.requires.0 c.requires.2 in
+    index-bad : b ≡ false → indexed image ≡ false
+    index-bad t = sym (laid-indexed image v l) ∙ ap (λ (x : Bool). x && index_ends image) (sym begun ∙ t)
+
+    index-good : b ≡ true → index_ends image ≡ true → indexed image ≡ true
+    index-good t ends = sym (laid-indexed image v l) ∙ ap₂ (λ (x y : Bool). x && y) (sym begun ∙ t) ends
+
+  index-open : index_ends image ≡ false → indexed image ≡ false
+  index-open e = sym (laid-indexed image v l) ∙ rw (e, and-false)
+
+  -- Header 2, and the test of it.
+  module _ (i : indexed image ≡ true) (h : List ℕ) (e : h ≡ block image (v.iblb.0 + v.ibsz + 1)) where
+    second : h ≡ header image 2
+    second = e ∙ laid-header2 image v l i
+
+    stored-read : (b : Bool)
+        → b ≡ (alone v.blocks 2 h && storage_mapped (map_blocks v.blocks) h && eqb (byte_at (block image (get_or (blocks_of h) 0 0)) 3) (map_blocks v.blocks)) → b ≡ stored image
+    stored-read b f = f ∙ rw second (laid-stored image v l)
+
+    storage-fits : stored image ≡ true → Fits h
+    storage-fits t =
+        let long : length h ≡ 512 = rw e (laid-length image v l s g _ (omega arith)) in
+        whole-fits (blocks image) 2 h long (rw second (stored-gives image t).0.whole)
+
+pub overflow_add-first : goal.overflow_add-first
+overflow_add-first c = omega (arith, laid-room c.args.image.now c.args.v c.requires.3 c.requires.0 c.requires.2)
+
+pub is_indexed-requires : goal.is_indexed-requires
+is_indexed-requires c =
+    let room = laid-room c.args.image.now c.args.v c.requires.3 c.requires.0 c.requires.2 in
     (rw c.block-h1.ensures (laid-length c.args.image.now c.args.v c.requires.3 c.requires.0 c.requires.2 _ (omega arith)), omega (arith, room), omega (arith, room))
 
-pub returns-then-not-indexed : goal.returns-then-not-indexed
-returns-then-not-indexed c =
-    let index_read : c.is_indexed-indexed.result ≡ begins c.args.image.now c.args.v c.requires.3 =
+pub returns-then-not-is_indexed : goal.returns-then-not-is_indexed
+returns-then-not-is_indexed c =
     let image = c.args.image.now in
-    rw (← laid-begins image c.args.v c.requires.3, ← laid-header1 image c.args.v c.requires.3, ← c.block-h1.ensures) c.is_indexed-indexed.ensures in
-    let image = c.args.image.now in
-    let none : (begins image c.args.v c.requires.3 && index_ends image) ≡ false = rw (sym index_read ∙ c.if-not-indexed.true) in
-    open-refused image refusal.Index c.refused.result _ c.refused.ensures
-    (open-index image c.requires.0 c.requires.1 c.requires.2 (sym (laid-indexed image c.args.v c.requires.3) ∙ none))
+    let r = c.requires in
+    open-index image r.0 r.1 r.2 (index-bad image c.args.v r.0 r.2 r.3 _ _ c.block-h1.ensures c.is_indexed.ensures c.if-not-is_indexed.true)
 
-pub headers_of-segments-requires : goal.headers_of-segments-requires
-headers_of-segments-requires c =
-    let index_read : c.is_indexed-indexed.result ≡ begins c.args.image.now c.args.v c.requires.3 =
+pub headers_of-requires : goal.headers_of-requires
+headers_of-requires c =
     let image = c.args.image.now in
-    rw (← laid-begins image c.args.v c.requires.3, ← laid-header1 image c.args.v c.requires.3, ← c.block-h1.ensures) c.is_indexed-indexed.ensures in
-    let begun : begins c.args.image.now c.args.v c.requires.3 ≡ true =
-    sym index_read ∙ c.if-not-indexed.false in
-    let image = c.args.image.now in (
-      c.requires.4,
-      c.requires.0,
-      c.requires.2,
-      c.requires.3,
-      ((and-eq-true_iff (heads (blocks image) 1 (index_header image)) (index_mapped (home image) (iblb image) (ibsz image) (blocks_of (index_header image)))).0 begun).0,
-      c.block-h1.ensures ∙ laid-header1 image c.args.v c.requires.3,
+    let v = c.args.v in
+    let r = c.requires in
+    let t : begins image v r.3 ≡ true = sym (begun image v r.0 r.2 r.3 _ _ c.block-h1.ensures c.is_indexed.ensures) ∙ c.if-not-is_indexed.false in (
+      r.4,
+      r.0,
+      r.2,
+      r.3,
+      ((and-eq-true_iff (heads (blocks image) 1 (index_header image)) (index_mapped (home image) (iblb image) (ibsz image) (blocks_of (index_header image)))).0 t).0,
+      c.block-h1.ensures ∙ laid-header1 image v r.3,
     )
 
-pub returns-then-segments-eq0 : goal.returns-then-segments-eq0
-returns-then-segments-eq0 c =
-    let index_read : c.is_indexed-indexed.result ≡ begins c.args.image.now c.args.v c.requires.3 =
+pub returns-in_err-segments : goal.returns-in_err-segments
+returns-in_err-segments c =
     let image = c.args.image.now in
-    rw (← laid-begins image c.args.v c.requires.3, ← laid-header1 image c.args.v c.requires.3, ← c.block-h1.ensures) c.is_indexed-indexed.ensures in
-    let begun : begins c.args.image.now c.args.v c.requires.3 ≡ true =
-    sym index_read ∙ c.if-not-indexed.false in
-    let walked : eqb c.headers_of-segments.result 0 ≡ not (indexed c.args.image.now) =
-    let image = c.args.image.now in
-    let same : (begins image c.args.v c.requires.3 && index_ends image) ≡ index_ends image = rw begun in
-    c.headers_of-segments.ensures.0 ∙ ap not (sym same ∙ laid-indexed image c.args.v c.requires.3) in
-    let image = c.args.image.now in
-    open-refused image refusal.Index c.refused-then-segments-eq0.result _ c.refused-then-segments-eq0.ensures
-    (open-index image c.requires.0 c.requires.1 c.requires.2 (not-true (indexed image) (sym walked ∙ eq-eqb c.headers_of-segments.result 0 c.if-segments-eq0.true)))
+    let r = c.requires in
+    let ends = rw c.in_err-segments.ensures.ok_part at c.headers_of.ensures in
+    let is : c.in_err-segments.field-0.0 ≡ refusal.Index = cc (rw c.in_err-segments.ensures.ok_part at c.in_err-segments.ensures.value) in
+    let p = err_from_is_err_and c.from_residual.result c.from_residual.ensures.1 in
+    rw (p.1, p.2, is) (open-index image r.0 r.1 r.2 (index-open image c.args.v r.0 r.2 r.3 ends))
 
-pub overflow_add-second : goal.overflow_add-second
-overflow_add-second c =
-    let room : (c.args.v.iblb.0 + c.args.v.ibsz + 16 ≤ c.args.v.blocks) × (c.args.v.blocks ≤ 1044480) =
-    laid-room c.args.image.now c.args.v c.requires.3 c.requires.0 c.requires.2 in
-    omega (arith, room)
+pub overflow_add-first-2 : goal.overflow_add-first-2
+overflow_add-first-2 c = omega (arith, laid-room c.args.image.now c.args.v c.requires.3 c.requires.0 c.requires.2)
 
-pub is_stored-stored-requires : goal.is_stored-stored-requires
-is_stored-stored-requires c =
-    let header2-long : length c.block-h2.result.now ≡ 512 =
-    rw c.block-h2.ensures (laid-length c.args.image.now c.args.v c.requires.3 c.requires.0 c.requires.2 _ (omega arith)) in
-    let room : (c.args.v.iblb.0 + c.args.v.ibsz + 16 ≤ c.args.v.blocks) × (c.args.v.blocks ≤ 1044480) =
-    laid-room c.args.image.now c.args.v c.requires.3 c.requires.0 c.requires.2 in
-    (header2-long, room.1)
+pub is_stored-requires : goal.is_stored-requires
+is_stored-requires c =
+    let room = laid-room c.args.image.now c.args.v c.requires.3 c.requires.0 c.requires.2 in
+    (rw c.block-h2.ensures (laid-length c.args.image.now c.args.v c.requires.3 c.requires.0 c.requires.2 _ (omega arith)), room.1)
 
-pub returns-then-not-stored : goal.returns-then-not-stored
-returns-then-not-stored c =
-    let index_read : c.is_indexed-indexed.result ≡ begins c.args.image.now c.args.v c.requires.3 =
+pub returns-then-not-is_stored : goal.returns-then-not-is_stored
+returns-then-not-is_stored c =
     let image = c.args.image.now in
-    rw (← laid-begins image c.args.v c.requires.3, ← laid-header1 image c.args.v c.requires.3, ← c.block-h1.ensures) c.is_indexed-indexed.ensures in
-    let begun : begins c.args.image.now c.args.v c.requires.3 ≡ true =
-    sym index_read ∙ c.if-not-indexed.false in
-    let walked : eqb c.headers_of-segments.result 0 ≡ not (indexed c.args.image.now) =
-    let image = c.args.image.now in
-    let same : (begins image c.args.v c.requires.3 && index_ends image) ≡ index_ends image = rw begun in
-    c.headers_of-segments.ensures.0 ∙ ap not (sym same ∙ laid-indexed image c.args.v c.requires.3) in
-    let indexes : indexed c.args.image.now ≡ true =
-    not-false (indexed c.args.image.now) (sym walked ∙ ne_eqb c.headers_of-segments.result 0 c.if-segments-eq0.false) in
-    let header2-read : c.block-h2.result.now ≡ header c.args.image.now 2 =
-    c.block-h2.ensures ∙ laid-header2 c.args.image.now c.args.v c.requires.3 indexes in
-    let stored-read : c.is_stored-stored.result ≡ stored c.args.image.now =
-    rw (← laid-stored c.args.image.now c.args.v c.requires.3, ← header2-read) c.is_stored-stored.ensures in
-    let image = c.args.image.now in
-    open-refused image refusal.Storage c.refused-then-not-stored.result _ c.refused-then-not-stored.ensures
-    (open-storage image c.requires.0 c.requires.1 c.requires.2 indexes (sym stored-read ∙ c.if-not-stored.true))
+    let v = c.args.v in
+    let r = c.requires in
+    let found = rw c.in_ok-segments.ensures.ok_part at c.headers_of.ensures in
+    let good = index-good image v r.0 r.2 r.3 _ _ c.block-h1.ensures c.is_indexed.ensures c.if-not-is_indexed.false found.0 in
+    open-storage image r.0 r.1 r.2 good (sym (stored-read image v r.0 r.2 r.3 good _ c.block-h2.ensures _ c.is_stored.ensures) ∙ c.if-not-is_stored.true)
 
 pub lbn_in-base-requires : goal.lbn_in-base-requires
 lbn_in-base-requires c =
-    let header2-long : length c.block-h2.result.now ≡ 512 =
-    rw c.block-h2.ensures (laid-length c.args.image.now c.args.v c.requires.3 c.requires.0 c.requires.2 _ (omega arith)) in
-    let index_read : c.is_indexed-indexed.result ≡ begins c.args.image.now c.args.v c.requires.3 =
     let image = c.args.image.now in
-    rw (← laid-begins image c.args.v c.requires.3, ← laid-header1 image c.args.v c.requires.3, ← c.block-h1.ensures) c.is_indexed-indexed.ensures in
-    let begun : begins c.args.image.now c.args.v c.requires.3 ≡ true =
-    sym index_read ∙ c.if-not-indexed.false in
-    let walked : eqb c.headers_of-segments.result 0 ≡ not (indexed c.args.image.now) =
-    let image = c.args.image.now in
-    let same : (begins image c.args.v c.requires.3 && index_ends image) ≡ index_ends image = rw begun in
-    c.headers_of-segments.ensures.0 ∙ ap not (sym same ∙ laid-indexed image c.args.v c.requires.3) in
-    let indexes : indexed c.args.image.now ≡ true =
-    not-false (indexed c.args.image.now) (sym walked ∙ ne_eqb c.headers_of-segments.result 0 c.if-segments-eq0.false) in
-    let header2-read : c.block-h2.result.now ≡ header c.args.image.now 2 =
-    c.block-h2.ensures ∙ laid-header2 c.args.image.now c.args.v c.requires.3 indexes in
-    let stored-read : c.is_stored-stored.result ≡ stored c.args.image.now =
-    rw (← laid-stored c.args.image.now c.args.v c.requires.3, ← header2-read) c.is_stored-stored.ensures in
-    let stores : stored c.args.image.now ≡ true =
-    sym stored-read ∙ c.if-not-stored.false in
-    let image = c.args.image.now in
-    let long = header2-long in
-    rw header2-read (whole-fits (blocks image) 2 (header image 2) (rw (← header2-read) long) (stored-gives image stores).0.whole)
+    let v = c.args.v in
+    let r = c.requires in
+    let found = rw c.in_ok-segments.ensures.ok_part at c.headers_of.ensures in
+    let good = index-good image v r.0 r.2 r.3 _ _ c.block-h1.ensures c.is_indexed.ensures c.if-not-is_indexed.false found.0 in
+    storage-fits image v r.0 r.2 r.3 good _ c.block-h2.ensures (sym (stored-read image v r.0 r.2 r.3 good _ c.block-h2.ensures _ c.is_stored.ensures) ∙ c.if-not-is_stored.false)
 
 pub returns : goal.returns
 unfolding base places_of
 returns c =
-    let ended : index_ends c.args.image.now ≡ true =
-    not-false (index_ends c.args.image.now) (sym c.headers_of-segments.ensures.0 ∙ ne_eqb c.headers_of-segments.result 0 c.if-segments-eq0.false) in
-    let index_read : c.is_indexed-indexed.result ≡ begins c.args.image.now c.args.v c.requires.3 =
     let image = c.args.image.now in
-    rw (← laid-begins image c.args.v c.requires.3, ← laid-header1 image c.args.v c.requires.3, ← c.block-h1.ensures) c.is_indexed-indexed.ensures in
-    let begun : begins c.args.image.now c.args.v c.requires.3 ≡ true =
-    sym index_read ∙ c.if-not-indexed.false in
-    let walked : eqb c.headers_of-segments.result 0 ≡ not (indexed c.args.image.now) =
-    let image = c.args.image.now in
-    let same : (begins image c.args.v c.requires.3 && index_ends image) ≡ index_ends image = rw begun in
-    c.headers_of-segments.ensures.0 ∙ ap not (sym same ∙ laid-indexed image c.args.v c.requires.3) in
-    let indexes : indexed c.args.image.now ≡ true =
-    not-false (indexed c.args.image.now) (sym walked ∙ ne_eqb c.headers_of-segments.result 0 c.if-segments-eq0.false) in
-    let header2-read : c.block-h2.result.now ≡ header c.args.image.now 2 =
-    c.block-h2.ensures ∙ laid-header2 c.args.image.now c.args.v c.requires.3 indexes in
-    let stored-read : c.is_stored-stored.result ≡ stored c.args.image.now =
-    rw (← laid-stored c.args.image.now c.args.v c.requires.3, ← header2-read) c.is_stored-stored.ensures in
-    let stores : stored c.args.image.now ≡ true =
-    sym stored-read ∙ c.if-not-stored.false in
-    let image = c.args.image.now in
-    let l = c.requires.3 in
-    let found = c.headers_of-segments.ensures.1 ended in (
-      sym (open-passed image c.requires.0 c.requires.1 c.requires.2 indexes stores),
-      λ p. says_all image _ (record { blocks = l.blocks; home = l.home; ibsz = l.ibsz; iblb = l.iblb; fmax = l.fmax })
-          (c.lbn_in-base.ensures ∙ ap₂ (λ (h : List ℕ) (i : ℕ). get_or (blocks_of h) i 0) header2-read (omega arith)) found.0,
-      λ p. found.1,
+    let v = c.args.v in
+    let r = c.requires in
+    let l = r.3 in
+    let found = rw c.in_ok-segments.ensures.ok_part at c.headers_of.ensures in
+    let good = index-good image v r.0 r.2 l _ _ c.block-h1.ensures c.is_indexed.ensures c.if-not-is_indexed.false found.0 in (
+      open-passed image r.0 r.1 r.2 good (sym (stored-read image v r.0 r.2 l good _ c.block-h2.ensures _ c.is_stored.ensures) ∙ c.if-not-is_stored.false),
+      says_all image _ (record { blocks = l.blocks; home = l.home; ibsz = l.ibsz; iblb = l.iblb; fmax = l.fmax })
+          (c.lbn_in-base.ensures ∙ ap₂ (λ (h : List ℕ) (i : ℕ). get_or (blocks_of h) i 0) (second image v r.0 r.2 l good _ c.block-h2.ensures) (omega arith)) found.1,
+      found.2,
     )

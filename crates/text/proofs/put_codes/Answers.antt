@@ -1,20 +1,14 @@
 -- After i turns the first i characters that the codes keep are written.
 use native.Mathlib.Omega.{arith}
-use borrow.Author.Rules.{rules}
-use mathlib.Core.Path.{◌≡◌, refl, sym, ap, ◌∙◌}
+use mathlib.Core.Path.{◌≡◌, sym, ap, ◌∙◌}
 use native.Mathlib.Numerals.{add-one}
 use lib.ListN.{length, length-set}
-use lib.Seq.{paste, paste-zero, paste-suc}
+use lib.Seq.{paste, paste-suc}
 use Rattle.image.proofs.StoreLaws.{paste-splice}
 use Rattle.names.specs.Names.{kept}
 use Rattle.names.proofs.NameLaws.{kept-most}
 use Rattle.parse.proofs.PartLaws.{kept-char}
 use Rattle.text.proofs.put_codes.Goals as goal
-
-pub loop-i-init : goal.loop-i-init
-loop-i-init c =
-    let a = c.args in
-    (search rules, refl, paste-zero a.text.now a.at (kept a.cs.now))
 
 pub bounds-cs-i : goal.bounds-cs-i
 bounds-cs-i c = omega (arith, kept-most c.args.cs.now)
@@ -29,13 +23,12 @@ loop-i-preserved c =
     let at = c.args.at in
     let cs = c.args.cs.now in
     let char = c.char_of.ensures ∙ (kept-char cs c.requires.0 c.loop-i.i (omega arith)).1 in (
-      search rules,
-      simp length-set c.loop-i.invariant.1,
-      rw (char, c.loop-i.invariant.2) (paste-suc text at (kept cs) c.loop-i.i 0 (omega arith) (omega arith) ∙ ap (paste text at (kept cs)) (sym (add-one c.loop-i.i))),
+      simp length-set c.loop-i.invariant.0,
+      rw (char, c.loop-i.invariant.1) (paste-suc text at (kept cs) c.loop-i.i 0 (omega arith) (omega arith) ∙ ap (paste text at (kept cs)) (sym (add-one c.loop-i.i))),
     )
 
 pub returns : goal.returns
 returns c =
     let a = c.args in
     let e : c.loop-i.i ≡ length (kept a.cs.now) = omega arith in
-    c.loop-i.invariant.2 ∙ ap (paste a.text.now a.at (kept a.cs.now)) e ∙ paste-splice a.text.now a.at (kept a.cs.now)
+    c.loop-i.invariant.1 ∙ ap (paste a.text.now a.at (kept a.cs.now)) e ∙ paste-splice a.text.now a.at (kept a.cs.now)

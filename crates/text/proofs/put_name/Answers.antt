@@ -1,6 +1,5 @@
 -- Each part is written right behind the one before.
 use native.Mathlib.Omega.{arith}
-use borrow.Author.Rules.{rules}
 use mathlib.Core.Path.{◌≡◌, refl, ap, ◌∙◌}
 use mathlib.Core.List.{[], ◌∷◌, ◌++◌, append_assoc}
 use Prim.Native.Nat.{◌+◌}
@@ -11,32 +10,15 @@ use Rattle.text.specs.Text.{decimal, text_of}
 use Rattle.text.proofs.TextLaws.{Wrote, wrote_none, wrote_on, decimal-most}
 use Rattle.text.proofs.put_name.Goals as goal
 
-pub put_codes-requires : goal.put_codes-requires
-put_codes-requires c =
-    (c.requires.name_value.0, c.requires.name_value.1, omega arith)
-
-pub bounds-text-long : goal.bounds-text-long
-bounds-text-long c = omega (arith, c.put_codes.auto.text)
-
-pub put_codes-requires-2 : goal.put_codes-requires-2
-put_codes-requires-2 c =
-    (c.requires.typ_value.0, c.requires.typ_value.1, simp length-set (omega (arith, c.put_codes.auto.text)))
-
-pub bounds-text-semicolon : goal.bounds-text-semicolon
-bounds-text-semicolon c =
-    let type-long : length c.put_codes-2.new.text ≡ length c.args.text.now =
-    c.put_codes-2.auto.text ∙ length-set c.put_codes.new.text c.args.long _ ∙ c.put_codes.auto.text in
-    omega (arith, type-long)
-
 pub put_decimal-requires : goal.put_decimal-requires
 put_decimal-requires c =
     let type-long : length c.put_codes-2.new.text ≡ length c.args.text.now =
     c.put_codes-2.auto.text ∙ length-set c.put_codes.new.text c.args.long _ ∙ c.put_codes.auto.text in
-    (search rules, c.digit_count-k.ensures, simp length-set (omega (arith, type-long, c.digit_count-k.ensures, decimal-most c.args.version)))
+    (omega (arith, c.from-v.ensures), c.digit_count-k.ensures, simp length-set (omega (arith, type-long, c.digit_count-k.ensures, decimal-most c.from-v.result)))
 
 pub overflow_add-result : goal.overflow_add-result
 overflow_add-result c =
-    omega (arith, c.digit_count-k.ensures, decimal-most c.args.version)
+    omega (arith, c.digit_count-k.ensures, decimal-most c.from-v.result)
 
 pub returns : goal.returns
 unfolding text_of
@@ -49,5 +31,5 @@ returns c =
     let type-long : length c.put_codes-2.new.text ≡ length c.args.text.now =
     c.put_codes-2.auto.text ∙ length-set c.put_codes.new.text c.args.long _ ∙ c.put_codes.auto.text in
     let semicolon = wrote_on (59 ∷ []) type-part (set-splice c.put_codes-2.new.text (c.args.long + 1 + c.args.short) 59 (omega (arith, type-long))) refl in
-    let all = wrote_on (decimal c.args.version) semicolon c.put_decimal.ensures (ap (λ n. c.args.long + 1 + c.args.short + 1 + n) c.digit_count-k.ensures) in
+    let all = rw c.from-v.ensures at (wrote_on (decimal c.from-v.result) semicolon c.put_decimal.ensures (ap (λ n. c.args.long + 1 + c.args.short + 1 + n) c.digit_count-k.ensures)) in
     record { value = simp append_assoc at all.place; text_after = simp append_assoc at all.text }

@@ -1,20 +1,16 @@
 -- The rules one after the other; the marks are those of cover, which BADHOME leaves as they are.
-use mathlib.Core.Path.{◌≡◌, refl, sym, ap, ◌∙◌}
+use mathlib.Core.Path.{◌≡◌, sym, ap, ◌∙◌}
 use mathlib.Core.List.{List}
 use Prim.Native.Nat.{ℕ, ◌≤◌}
 use native.Mathlib.Omega.{arith}
 use lib.ListN.{length}
-use Rattle.answer.specs.declared.outcome.Outcome.TheVariants as outcome
 use Rattle.answer.specs.Outcome.{◌then◌}
 use Rattle.home.specs.Home.{blocks}
 use Rattle.marks.specs.Marks.{tallied}
 use Rattle.marks.proofs.MarkLaws.{tallied-length}
 use Rattle.links.proofs.LinksLaws.{tallied-still}
-use Rattle.covers.specs.Covered.{covered, twice}
+use Rattle.covers.specs.Covered.{covered}
 use Rattle.verdict.proofs.judge_blocks.Goals as goal
-
-pub cover-requires : goal.cover-requires
-cover-requires c = (c.requires.0, c.requires.1, c.requires.3)
 
 -- An area that holds the marks.
 marks-fit : (image area new : List ℕ) → blocks image ≤ length area → new ≡ tallied (covered image) 0 (blocks image) area
@@ -24,46 +20,32 @@ marks-fit image area new room e = (
   tallied-still (covered image) 0 (blocks image) area new e,
 )
 
-pub twice-once-requires : goal.twice-once-requires
-twice-once-requires c =
-    let image : List ℕ = c.args.image.now in
-    let area : List ℕ = c.args.area.now in
+pub twice-requires : goal.twice-requires
+twice-requires c =
     let p = c.requires in
-    let m = marks-fit image area _ p.3 c.cover.ensures in
+    let m = marks-fit _ c.args.area.now _ p.3 c.cover.ensures in
     ((p.0.0, p.0.1), m.0, m.1)
 
-pub bad_home-passed-requires : goal.bad_home-passed-requires
-bad_home-passed-requires c =
-    let image : List ℕ = c.args.image.now in
-    let area : List ℕ = c.args.area.now in
+pub bad_home-requires : goal.bad_home-requires
+bad_home-requires c =
     let p = c.requires in
-    let once : twice image ≡ outcome.Passed = sym c.twice-once.ensures ∙ c.in-Passed.is in
-    let m = marks-fit image area _ p.3 c.cover.ensures in
-    (p.0, p.1, p.2, once, m.0, m.1)
+    let m = marks-fit _ c.args.area.now _ p.3 c.cover.ensures in
+    (p.0, p.1, p.2, sym c.in_ok-twice.ensures, m.0, m.1)
 
 pub bad_map-requires : goal.bad_map-requires
 bad_map-requires c =
-    let image : List ℕ = c.args.image.now in
-    let area : List ℕ = c.args.area.now in
     let p = c.requires in
-    let m = marks-fit image area _ p.3 (c.bad_home-passed.ensures.1 ∙ c.cover.ensures) in
+    let m = marks-fit _ c.args.area.now _ p.3 (c.bad_home.ensures.1 ∙ c.cover.ensures) in
     ((p.0.0, p.0.1), m.0, m.1)
 
-pub returns-in-Passed-passed : goal.returns-in-Passed-passed
+pub returns-in_err-twice : goal.returns-in_err-twice
 unfolding ◌then◌
-returns-in-Passed-passed c =
-    let image : List ℕ = c.args.image.now in
-    let once : twice image ≡ outcome.Passed = sym c.twice-once.ensures ∙ c.in-Passed.is in
-    (rw (once, sym c.bad_home-passed.ensures.0 ∙ c.in-Passed-passed.is) c.bad_map.ensures, c.bad_home-passed.ensures.1 ∙ c.cover.ensures)
+returns-in_err-twice c = (grind arith, c.cover.ensures)
 
-pub returns-in-Refused-passed : goal.returns-in-Refused-passed
+pub returns-in_err-bad_home : goal.returns-in_err-bad_home
 unfolding ◌then◌
-returns-in-Refused-passed c =
-    let image : List ℕ = c.args.image.now in
-    let once : twice image ≡ outcome.Passed = sym c.twice-once.ensures ∙ c.in-Passed.is in
-    (rw (once, sym c.bad_home-passed.ensures.0 ∙ c.in-Refused-passed.is) refl, c.bad_home-passed.ensures.1 ∙ c.cover.ensures)
+returns-in_err-bad_home c = (grind arith, c.bad_home.ensures.1 ∙ c.cover.ensures)
 
-pub returns-in-Refused : goal.returns-in-Refused
+pub returns : goal.returns
 unfolding ◌then◌
-returns-in-Refused c =
-    (rw (sym c.twice-once.ensures ∙ c.in-Refused.is) refl, c.cover.ensures)
+returns c = (grind arith, c.bad_home.ensures.1 ∙ c.cover.ensures)

@@ -1,16 +1,12 @@
--- Each pointer so far ends inside.
-use borrow.Author.Rules.{rules}
-use native.Mathlib.Omega.{arith}
+-- A pointer that ends past the last block is the one that fails.
 use mathlib.Core.Path.{◌≡◌, sym, ap, ◌∙◌}
 use Prim.Native.Nat.{ℕ, ◌+◌, ◌*◌}
-use borrow.Author.Tests.{le-leb, lt-leb}
-use Rattle.lists.proofs.BelowLaws.{below_none, below_more, below_fails}
+use native.Mathlib.Omega.{arith}
+use borrow.Author.Tests.{lt-leb}
+use Rattle.lists.proofs.BelowLaws.{below_fails}
 use Rattle.pointers.specs.Pointers.{pointers_at, pointers, pointer_lbn, pointer_count}
 use Rattle.whole.specs.Whole.{ends_inside}
 use Rattle.whole.proofs.pointers_end_inside.Goals as goal
-
-pub loop-p-init : goal.loop-p-init
-loop-p-init c = (search rules, below_none (ends_inside c.args.blocks c.args.h.now))
 
 pub returns-then-blocks-pointer_lbn : goal.returns-then-blocks-pointer_lbn
 unfolding ends_inside
@@ -22,21 +18,3 @@ returns-then-blocks-pointer_lbn c =
     let lbn : c.pointer_lbn.result.0 ≡ pointer_lbn h at = c.pointer_lbn.ensures.0 ∙ ap (pointer_lbn h) e in
     let count : c.pointer_count.result ≡ pointer_count h at = c.pointer_count.ensures.0 ∙ ap (pointer_count h) e in
     sym (below_fails (pointers h) (ends_inside a.blocks h) c.loop-p.p (omega arith) (lt-leb (pointer_lbn h at + pointer_count h at) a.blocks (omega arith)))
-
-pub loop-p-preserved : goal.loop-p-preserved
-unfolding ends_inside
-loop-p-preserved c =
-    let a = c.args in
-    let h = a.h.now in
-    let at = pointers_at h + 4 * c.loop-p.p in
-    let e : c.first_pointer-at.result + 4 * c.loop-p.p ≡ at = ap (λ (x : ℕ). x + 4 * c.loop-p.p) c.first_pointer-at.ensures.0 in
-    let lbn : c.pointer_lbn.result.0 ≡ pointer_lbn h at = c.pointer_lbn.ensures.0 ∙ ap (pointer_lbn h) e in
-    let count : c.pointer_count.result ≡ pointer_count h at = c.pointer_count.ensures.0 ∙ ap (pointer_count h) e in
-    (search rules, below_more c.loop-p.p (ends_inside a.blocks h) c.loop-p.invariant.1 (le-leb (pointer_lbn h at + pointer_count h at) a.blocks (omega arith)))
-
-pub returns : goal.returns
-returns c =
-    let a = c.args in
-    let h = a.h.now in
-    let e : pointers h ≡ c.loop-p.p = omega arith in
-    rw (e, c.loop-p.invariant.1)
