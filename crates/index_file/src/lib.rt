@@ -33,6 +33,10 @@ fn walk(image: &[u8], v: Volume, places: &mut Places) -> Option<usize>
         if n.0 == 0 {
             return Some(k + 1);
         }
+        // The array is full, so where the link leads need not be looked for.
+        if k == 255 {
+            return None;
+        }
         let used = is_marked(image, v.fmax, v.iblb, v.ibsz, n);
         if !used {
             return None;

@@ -9,7 +9,7 @@ use Rattle.home.specs.Home.{blocks}
 use Rattle.volume.specs.Volume.{index_header}
 use Rattle.volume.proofs.OpeningLaws.{sized-is}
 use Rattle.volume.proofs.VolumeLaws.{heads-gives, laid-room, laid-mapped}
-use Rattle.index_file.proofs.WalkLaws.{along-start, along-length, along-fit, along-end, walk-unused, walk-past, walk-found, next-long, walk-off, walk-on}
+use Rattle.index_file.proofs.WalkLaws.{along-start, along-length, along-fit, along-full, along-end, walk-unused, walk-past, walk-found, next-long, walk-off, walk-on}
 use Rattle.index_file.proofs.walk.Goals as goal
 
 pub overflow_add-first : goal.overflow_add-first
@@ -35,6 +35,11 @@ pub returns-then-n-eq0 : goal.returns-then-n-eq0
 returns-then-n-eq0 c =
     let n : c.from.result ≡ m_efnu (block c.args.image.now c.loop-k.at.0) = omega (arith, ap m_efnu c.block-h.ensures) in
     along-end c.args.image.now c.loop-k.places c.loop-k.k c.loop-k.at.0 (c.loop-k.invariant.0 (omega arith)) (omega arith)
+
+pub returns-then-k-eq255 : goal.returns-then-k-eq255
+returns-then-k-eq255 c =
+    let n : c.from.result ≡ m_efnu (block c.args.image.now c.loop-k.at.0) = omega (arith, ap m_efnu c.block-h.ensures) in
+    along-full c.args.image.now c.loop-k.places c.loop-k.k c.loop-k.at.0 (c.loop-k.invariant.0 (omega arith)) (λ z. c.if-n-eq0.false (n ∙ z)) (omega arith)
 
 pub is_marked-used-requires : goal.is_marked-used-requires
 is_marked-used-requires c =
