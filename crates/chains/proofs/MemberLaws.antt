@@ -134,20 +134,21 @@ module _ (image : List ℕ) (n : ℕ) (numbers slots : List ℕ) (number at coun
         (and-eq-true_iff (good_link_of image number) (every (good_link_of image) (chain (header image) (255 - count) (m_efnu h)))).0
         (sym (every_more (header image) (good_link_of image) (255 - count) number some-link) ∙ left)
 
-    linked : Linked image h
+    -- What M.EFNU names.
+    pub gathers-linked : Linked image h
     unfolding good_link_of
-    linked = good-links image h some-link both.0
+    gathers-linked = good-links image h some-link both.0
 
     -- M.EFNU names a number in use with a slot.
     pub gathers-number : is_number image next ≡ true
-    gathers-number = rw (named next e) linked.number
+    gathers-number = rw (named next e) gathers-linked.number
 
     -- With it the walk comes to the header that it names.
     pub gathers-next : Bytes image → (on : ℕ) → on ≡ slot image next → Gathers image n (set numbers count number) (set slots count at) next on (count + 1)
     gathers-next bytes on lies =
         let f : 255 - count ≡ 256 - (count + 1) = omega arith in
         let q = named next e in
-        let place = linked.next ∙ ap (λ (k : ℕ). k + 1) g.place in
+        let place = gathers-linked.next ∙ ap (λ (k : ℕ). k + 1) g.place in
         record {
           used = gathers-number;
           lies = lies;

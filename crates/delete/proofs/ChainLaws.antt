@@ -37,7 +37,7 @@ use Rattle.delete_steps.specs.Steps.{HaveBits, Freeable, AllFreeable, AllInside}
 use Rattle.delete_steps.proofs.StepLaws.{put-length}
 
 -- A number whose header was found is that of a file.
-first-file : (image : List ℕ) (n : ℕ) → IsFirst image n → IsFile image n
+pub first-file : (image : List ℕ) (n : ℕ) → IsFirst image n → IsFile image n
 unfolding is_number
 first-file image n f = record { used = ((and-eq-true_iff (in_use image n) (has_slot image n)).0 f.0).0; first = f.2 }
 

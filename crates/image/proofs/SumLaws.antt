@@ -4,7 +4,11 @@ use native.Mathlib.Nat.{mod-add-mod}
 use Rattle.image.specs.Words.{word_at}
 use Rattle.image.specs.Sums.{word_sum, checksum}
 
--- The running 16-bit sum is the sum kept to 16 bits: so with one word more.
+-- The running 16-bit sum is the sum kept to 16 bits: so at no word, and so with one word more.
+pub checksum-none : (b : List ℕ) → checksum b 0 ≡ 0
+unfolding checksum word_sum
+checksum-none b = refl
+
 pub checksum-more : (b : List ℕ) (n : ℕ) → (checksum b n + word_at b (2 * n)) % 65536 ≡ checksum b (n + 1)
 unfolding checksum word_sum
 checksum-more b n = rw (add-one n) (mod-add-mod (word_sum b n) 65536 (word_at b (2 * n)))

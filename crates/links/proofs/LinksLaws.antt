@@ -46,7 +46,7 @@ module _ (l : List ℕ) (k : ℕ) (area : List ℕ) where
       go (yes a) (no b) = rw (le-leb 1 t a, lt-leb t k (omega arith)) (tallied-other l 1 k area t (omega arith))
       go (no a) b = rw (lt-leb 1 t (omega arith)) (tallied-other l 1 k area t (omega arith))
 
-raised-low : (area : List ℕ) (k t : ℕ) → t < 1 → raised_link area k t ≡ area
+pub raised-low : (area : List ℕ) (k t : ℕ) → t < 1 → raised_link area k t ≡ area
 unfolding raised_link
 raised-low area k t h = rw (lt-leb 1 t h)
 

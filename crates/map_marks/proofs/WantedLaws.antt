@@ -32,7 +32,7 @@ unlike-from map area n j h = rw (le-ltb j n h) (go (bit_at map j) (bit_below map
 
 -- The bit that is read and the bit that its mark wants, with the weight 1: they differ, or they are the same.
 module _ (map area : List ℕ) (n j b w : ℕ) (inside : j < n) (read : b ≡ bit_at map j) (wants : w ≡ 1 * one_if (eqb (byte_at area j) 0)) where
-  unlike-is : unlike_marks map area n j ≡ not (eqb b w)
+  pub unlike-is : unlike_marks map area n j ≡ not (eqb b w)
   unfolding wanted_bit
   unlike-is = unlike-below map area n j inside ∙ ap₂ (λ (x y : ℕ). not (eqb x y)) (sym read) (sym (wants ∙ one-mul (one_if (eqb (byte_at area j) 0))))
 

@@ -7,6 +7,7 @@ use native.Mathlib.Nat.{zero-add, add-zero, sub-zero, suc-add}
 use native.Mathlib.Decide.{ℕ_discrete, dec_lt}
 use native.Mathlib.Numerals.{add-one}
 use native.Mathlib.Omega.{arith}
+use borrow.Author.Fill.{fill_more}
 use borrow.Author.Tests.{le-leb, lt-leb, eq-eqb, ne_eqb}
 use lib.Dec.{leb, eqb}
 use lib.ListN.{length, get_or, drop, set, length-set, length-append, length-drop, get_or-append}
@@ -168,7 +169,15 @@ module _ (l : List ℕ) (s k : ℕ) (area : List ℕ) where
   pub tallied-clear : (i : ℕ) → i < k → eqb (byte_at (tallied l s k area) i) 0 ≡ eqb (count (s + i) l) 0
   tallied-clear i h = rw (tallied-at i h) (capped-clear l (s + i))
 
--- The loop that lowers, one mark after the other.
+-- Clearing and lowering, one mark after the other.
+
+pub cleared-none : (area : List ℕ) → cleared area 0 ≡ area
+unfolding cleared zeros
+cleared-none area = refl
+
+pub cleared_more : (area : List ℕ) (i : ℕ) → i < length area → set (cleared area i) i 0 ≡ cleared area (i + 1)
+unfolding cleared zeros
+cleared_more area i h = fill_more i 0 area h
 
 pub lowered_none : (area : List ℕ) → lowered area 0 ≡ area
 unfolding lowered table

@@ -6,7 +6,7 @@ use Prim.Native.Nat.{ℕ, zero, suc, ◌+◌, ◌*◌, ◌-◌, ◌≤◌, ◌<�
 use native.Mathlib.Decide.{ℕ_discrete, dec_lt}
 use native.Mathlib.Numerals.{add-one}
 use native.Mathlib.Omega.{arith}
-use borrow.Author.Tests.{le-leb, not-false}
+use borrow.Author.Tests.{le-leb, lt-leb, not-false}
 use lib.ListN.{length, get_or, take, length-append, get_or-append, get_or-eq_default}
 use lib.Seq.{length-take-le, get_or-take, get_or-append_seam}
 use Rattle.image.specs.Words.{byte_at}
@@ -82,6 +82,14 @@ module _ (p : List ℕ) (j : ℕ) where
 pub digit-in : (x : ℕ) → 48 ≤ x → x ≤ 57 → is_digit x ≡ true
 unfolding is_digit
 digit-in x a b = rw (le-leb 48 x a, le-leb x 57 b)
+
+pub digit_low : (x : ℕ) → x < 48 → is_digit x ≡ false
+unfolding is_digit
+digit_low x h = rw (lt-leb 48 x h)
+
+pub digit-high : (x : ℕ) → 57 < x → is_digit x ≡ false
+unfolding is_digit
+digit-high x h = rw (lt-leb x 57 h, and-false)
 
 module _ (d : List ℕ) where
   pub value_none : value_to d 0 ≡ 0

@@ -273,7 +273,7 @@ module _ {image : List ℕ} (o : Opens image) where
   unfolding header
   header-length n l h = block-length image (slot image n) (omega (arith, o.size, slot-below n l h))
 
-  -- Some least sixteen numbers have a slot.
+  -- At least sixteen numbers have a slot.
   pub slots-least : 16 ≤ slots image
   unfolding slots
   slots-least = omega (arith, index-file.long)
